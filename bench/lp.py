@@ -6,7 +6,7 @@
 
 Each slot is two whole numbers: `yR_T`, whether the run R starts in period T, and `qR_T`, its quanta; the rows are those of
 tools/plant_program.py. A unit whose changeovers cost has besides a flow over its periods, which goes through the tasks that it ran:
-`s` stays at a task, `c` changes from one (`n`: none) to that of a slot. It is whole where the starts are.
+`s` stays at a task, `c` changes from one (`n`: none of the plan's) to that of a slot. It is whole where the starts are.
 """
 import glob, math, os, sys
 from collections import defaultdict
@@ -68,7 +68,8 @@ def add_flow(made, program, unit):
             kept[task, period][arc], kept[task, period + 1][arc] = -1, 1
     begun = {}
     for j, slot in own:
-        arcs = {made.add(f"cn_{slot.run}_{slot.period}", 1, False, 0): 1, j: -1}
+        first = plain.first_cost(program.plant, unit, slot.task)
+        arcs = {made.add(f"cn_{slot.run}_{slot.period}", 1, False, first): 1, j: -1}
         begun.update(dict.fromkeys(list(arcs)[:1], 1))
         for task in tasks:
             cost = plain.greatest_gap(program.plant, unit, task, slot.task)[1]

@@ -28,6 +28,11 @@ class Plant:
     def gap(self, a, b):
         return max([it["periods"] for it in self.several("gap") if (it["unit"], it["from"], it["to"]) == (a[1], a[2], b[2])], default=0)
 
+    def ready(self, start):
+        """When a first batch may begin: after its unit's `until`, and the cleaning after `last`."""
+        last = next((it for it in self.several("unit") if it["name"] == start[1] and "last" in it), None)
+        return last.get("until", 0) + self.gap((0, start[1], last["last"]), start) if last else 0
+
     def share(self, task, side):
         return [(it["state"], int(self.tasks[task]["quantum"] * Fraction(it["part"])), it.get("delay", 0)) for it in self.tasks[task][side]]
 
@@ -79,6 +84,9 @@ def units_lines(plant, plan):
         met = [j for j in range(i + 1, len(plan)) if meet(plant, a, plan[j])]
         if met:
             yield f"busy {i + 1} {met[0] + 1}"
+    for place, start in enumerate(plan, 1):
+        if plant.ready(start) > start[0] and not any(it[1] == start[1] and it[0] < start[0] for it in plan):
+            yield f"gap 0 {place} by {plant.ready(start) - start[0]}"
     for i, a in enumerate(plan):
         later = [b[0] for b in plan if b[1] == a[1] and b[0] > a[0]]
         for j, b in enumerate(plan):

@@ -123,20 +123,22 @@ def check_arrays(top):
 
 
 def check_key(table, key, holds, default, late):
-    """The range of a key in version 3 and in version 1, and whether it is required."""
-    what, first = fields.of(table, key, 3), fields.of(table, key, 1)
+    """The range of a key in each version, and whether it is required."""
+    what, second, first = (fields.of(table, key, version) for version in (3, 2, 1))
     knows = [fields.of(table, key, version) is not None for version in (1, 2, 3)]
     if knows != [version >= late or table == "outage" for version in (1, 2, 3)]:
         yield f"schema: {table} {key} is known in other versions than docs/formats.md says"
         return
     ends = what.get("items", what)
-    found = re.match(r"(-?[\d,]+)(?: \((-?[\d,]+)\))? to (-?[\d,]+)(?: \((-?[\d,]+)\))?", holds)
+    number = r"(-?[\d,]*\d)"
+    found = re.match(rf"{number}(?: \({number}\))? to {number}(?: \({number}\))?(?:, v3: {number})?", holds)
     if found and "minimum" in ends:
-        low, low2, high, high2 = (int(it.replace(",", "")) if it else None for it in found.groups())
-        if (ends["minimum"], ends["maximum"]) != (low if low2 is None else low2, high if high2 is None else high2):
-            yield f"schema: {table} {key} is {ends['minimum']} to {ends['maximum']}, and docs/formats.md says {holds}"
-        if first and "minimum" in first and (first["minimum"], first["maximum"]) != (low, high):
-            yield f"schema: {table} {key} of version 1 is {first['minimum']} to {first['maximum']}, and docs/formats.md says {holds}"
+        low, low2, high, high2, high3 = (int(it.replace(",", "")) if it else None for it in found.groups())
+        of_second = (low if low2 is None else low2, high if high2 is None else high2)
+        wanted = (of_second[0], of_second[1] if high3 is None else high3), of_second, (low, high)
+        for version, held, range_ in zip((3, 2, 1), (ends, second, first), wanted):
+            if held and "minimum" in held and (held["minimum"], held["maximum"]) != range_:
+                yield f"schema: {table} {key} of version {version} is {held['minimum']} to {held['maximum']}, and docs/formats.md says {holds}"
     if (key in fields.tables(1)[table][1]) != (default == "-") and table != "top":
         yield f"schema: {table} {key} is required in one of schema and docs/formats.md alone"
 
@@ -411,6 +413,15 @@ def of_runs():
     wide = long.put(0, "periods", "120").put(gap, "periods", "96")
     wide.blocks.insert(gap, ("[[gap]]", [("unit", '"U"'), ("from", '"wash"'), ("to", '"make"'), ("periods", "96")]))
     yield plant_case("19", wide, "19 gap 0 0 -", None, "13,728 pairs", "on `U` from `make` to `wash` 6,864")
+    unit, third = BASE.find("unit"), BASE.put(0, "version", "3")
+    yield plant_case("4, last in version 2", BASE.put(unit, "last", '"make"'), "4 unit 1 0 -", BASE.put(unit, "last", "1").line(unit, "last"),
+                     "the key `last`", "version 3 knows it")
+    for key, value, kind, says in (("last", "7", 6, "should hold a text"), ("until", '"1"', 6, "should hold a whole number"), ("until", "5", 7, "-96 to 4, the horizon"),
+                                   ("until", "-97", 7, "-96 to 4, the horizon"), ("until", "1", 23, "and no `last`"), ("last", '"mike"', 10, "did you mean `make`?")):
+        wrong = third.put(unit, key, value)
+        yield plant_case(f"{kind} unit {key} {value}", wrong, f"{kind} unit 1 0 {key}", wrong.line(unit, key), "the 1st unit (`U`)", says)
+    gap = BASE.find("gap")
+    yield plant_case("7 gap of version 3", third.put(gap, "periods", "337"), "7 gap 1 0 periods", third.line(gap, "periods"), "`337`", "0 to 336")
     first = BASE.put(0, "version", "1")
     yield plant_case("3, version 1", first, "3 top 0 0 -", first.line(first.find("outage")), "`outage`", "version 2 knows it")
 
@@ -475,9 +486,9 @@ amount = 2
 
 def of_plans():
     """Every kind of a plan file, and every violation."""
-    def case(what, plan, answer, *parts, words=("simulate", "plant.toml", "a.plan")):
+    def case(what, plan, answer, *parts, words=("simulate", "plant.toml", "a.plan"), plant=TINY):
         subject = ("plan", answer.split()[2]) if answer.startswith("refused") else ("broken", answer.split()[1])
-        return Case(what, list(words), answer, *parts, files={"plant.toml": TINY, "a.plan": plan}, says=subject)
+        return Case(what, list(words), answer, *parts, files={"plant.toml": plant, "a.plan": plan}, says=subject)
 
     yield case("plan 1, words", "# a plan\n0 U make\n", "refused plan 1 2", "a.plan, line 2, `0 U make`", "3 words, and four")
     yield case("plan 1, number", "0 U make 03\n", "refused plan 1 1", "line 1", "QUANTA is a number")
@@ -492,6 +503,11 @@ def of_plans():
     yield case("unfit, outage", "1 V make 1\n", "broken unfit 1", "`V` has an outage from 1 to 2")
     yield case("busy", "1 U make 1\n0 U rest 1\n", "broken busy 1 2", "meet on `U`", "`rest` on `U` in period 0 (1 quantum, line 2) runs to time 2", "(1 quantum, line 1)")
     yield case("gap", "0 U make 1\n1 U rest 1\n", "broken gap 1 2", "`U` is not clean", "ends at time 1", "cleaned for 1 period", "1 period too early")
+    held = TINY.replace("version = 2", "version = 3").replace('{ name = "W" }', '{ name = "W" }, { name = "X", last = "make" }')
+    held = held.replace('{ name = "U" }', '{ name = "U", last = "make", until = 1 }')
+    early = ("broken gap 0 1", "`U` is not ready", "a batch of `make` held it before the plan, which ends at time 1")
+    yield case("gap 0", "0 U make 1\n", *early, "`make` on `U` in period 0 (1 quantum, line 1) begins 1 period too early", plant=held)
+    yield case("gap 0, cleaned", "1 U rest 1\n", *early, "is cleaned for 1 period", "begins 1 period too early", plant=held)
     yield case("stock-low", "", "broken stock-low prod 3", "`prod` at time 3 is -2", "2 mass units are missing", "2 are due then")
     yield case("stock-low, taken", "0 U make 3\n1 U make 3\n2 U make 3\n", "broken stock-low feed 2", "`feed` at time 2 is -6", "taken then by `make` on `U` in period 2")
     yield case("stock-high", "0 U make 3\n1 U make 3\n", "broken stock-high prod 2", "`prod` at time 2 is 12", "2 above its limit of 10")

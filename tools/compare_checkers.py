@@ -103,7 +103,8 @@ def value_text(value):
 
 
 def random_plant(dice):
-    """A small plant that uses every table of version 2, with stocks, loads and cleaning that bind."""
+    """A small plant that uses every table of version 2, with stocks, loads and cleaning that bind; some of version 3, with units
+    that a batch held before."""
     periods, states, tasks, units = dice.randint(2, 5), "abcd", dice.randint(1, 3), dice.randint(1, 2)
     some = lambda least, most, make: [make() for _ in range(dice.randint(least, most))]
     time = lambda: dice.randint(0, periods)
@@ -124,6 +125,10 @@ def random_plant(dice):
     plant["receipt"], plant["delivery"] = some(0, 2, moved), some(0, 1, lambda: {**moved(), "payment": dice.randint(-5, 9)})
     plant["outage"] = some(0, 1, lambda: {"unit": unit(), "from": (begin := dice.randrange(periods)),
                                           "to": dice.randint(begin + 1, periods)})
+    if dice.random() < 0.4:
+        plant["version"] = 3
+        for it in plant["unit"]:
+            it.update({"last": of_tasks(), "until": dice.randint(-2, periods)} if dice.random() < 0.7 else {})
     return plant
 
 

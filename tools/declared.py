@@ -7,7 +7,7 @@ begins and its `text`, and says with `declare` whether it stands over the progra
 
 from dataclasses import dataclass, field
 
-from plant_program import Row, entry_at, greatest_gap
+from plant_program import Row, entry_at, first_cost, greatest_gap
 
 GREATEST_LIMIT = 10**12  # of a derived row
 
@@ -84,6 +84,7 @@ class Setup:
         ready = {i: min(slot.end for _, slot in own if slot.task == i) for i in self.firsts}
         gaps = {(i, k): greatest_gap(plant, unit, i, k) for i in self.firsts for k in self.firsts if i != k}
         self.costs = {pair: cost for pair, (_, cost) in gaps.items()}
+        self.openings = [first_cost(plant, unit, k) for k in self.firsts]  # from the batch that held the unit last
         self.changes = [(i, k, t) for i, k in gaps for t in range(plant.periods)
                         if (k, t) in self.starts and ready[i] + gaps[i, k][0] <= t]
 
@@ -96,7 +97,7 @@ class Setup:
         begin = len(program.domains)
         first = {k: begin + n for n, k in enumerate(self.firsts)}
         change = {it: begin + len(first) + n for n, it in enumerate(self.changes)}
-        for profit in [0] * len(first) + [-self.costs[i, k] for i, k, _ in self.changes]:
+        for profit in [-cost for cost in self.openings] + [-self.costs[i, k] for i, k, _ in self.changes]:
             program.add_slot((0, 1), (profit, 0))
         program.rows.append(Row({j: (1, 0) for j in first.values()}, 1))
         for k, t in self.runs:

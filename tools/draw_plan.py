@@ -70,7 +70,15 @@ class Drawing:
         worth -= sum(it.rates[t] * self.load(n, t) for n, it in enumerate(plant.utilities) for t in range(plant.periods))
         worth -= sum(run.cost for s in self.plan for run in plant.runs if (run.task, run.unit) == (s.task, s.unit))
         worth -= sum(self.gap(a, b, 4) for a in self.plan for b in self.plan if self.is_next(a, b))
+        worth -= sum(self.gap(self.before(b), b, 4) for b in self.plan if self.before(b))
         return worth
+
+    def before(self, start):
+        """The batch that held the unit before the plan, of a start that is the first on the unit."""
+        last = self.plant.lasts[start.unit]
+        if last is None or any(it.unit == start.unit and it.period < start.period for it in self.plan):
+            return None
+        return Start(last[1], start.unit, last[0], 0)
 
     def is_next(self, a, b):
         between = [c for c in self.plan if c.unit == a.unit and a.period < c.period < b.period]
@@ -139,6 +147,11 @@ class Drawing:
         self.put(f'<path class="grid" d="{lines}"/>\n')
         for unit, begin, end in self.plant.outages:
             self.span("outage", band, unit, begin, end)
+        for unit, last in enumerate(self.plant.lasts):
+            self.held(band, unit, *last or (0, 0))
+        for start in self.plan:
+            if before := self.before(start):
+                self.span("clean", band, start.unit, before.period, before.period + self.gap(before, start, 3))
         for a in self.plan:
             for b in self.plan:
                 if self.is_next(a, b):
@@ -157,13 +170,21 @@ class Drawing:
             self.box(kind, x, y, width, 20)
 
     def bar(self, band, start):
-        found = self.cut(band, start.period, self.end(start))
+        amount = f"{start.quanta} = {start.quanta * self.plant.tasks[start.task].quantum}"
+        title = f"{amount}, {start.period} to {self.end(start)}"
+        self.colour_bar(self.cut(band, start.period, self.end(start)), start.unit, start.task, title, amount)
+
+    def held(self, band, unit, task, until):
+        """What is left of the batch that held a unit before the plan."""
+        self.colour_bar(self.cut(band, 0, until), unit, task, f"until {until}", f"until {until}")
+
+    def colour_bar(self, found, unit, task, title, amount):
         if not found:
             return
-        name, amount = self.names["task"][start.task], f"{start.quanta} = {start.quanta * self.plant.tasks[start.task].quantum}"
-        self.put(f'<g class="c{start.task % 8}"><title>{name} {amount}, {start.period} to {self.end(start)}</title>\n')
-        x, y, width = self.x(found[0]), ROW + ROW * start.unit + 1, (found[1] - found[0]) * self.width
-        self.box(f"d{start.task // 8}", x, y, width, 20)
+        name = self.names["task"][task]
+        self.put(f'<g class="c{task % 8}"><title>{name} {title}</title>\n')
+        x, y, width = self.x(found[0]), ROW + ROW * unit + 1, (found[1] - found[0]) * self.width
+        self.box(f"d{task // 8}", x, y, width, 20)
         self.short("task", x + 4, y + 9, (width - 6) // 6, name)
         self.short("quanta", x + 4, y + 18, (width - 6) // 6, amount)
         self.put("</g>\n")

@@ -47,9 +47,10 @@ class Tables:
         return earlier[-1] if earlier else None
 
     def change(self, start):
-        """Periods of cleaning and cost between the batch before a batch and it."""
-        before = self.before(start)
-        listed = [gap for gap in self.plant.gaps if before and gap[:3] == (start[0], before[2], start[2])]
+        """Periods of cleaning and cost between the batch before a batch and it; before a first one stands the unit's `last`."""
+        before, last = self.before(start), self.plant.lasts[start[0]]
+        task = before[2] if before else last[0] if last else None
+        listed = [gap for gap in self.plant.gaps if gap[:3] == (start[0], task, start[2])]
         return max([gap[3] for gap in listed], default=0), max([gap[4] for gap in listed], default=0)
 
     def stock(self, state, time):
@@ -96,12 +97,13 @@ class Tables:
 
     def doing(self, unit, period):
         """Which of the columns a period of a unit counts in."""
-        own = [start for start in self.starts if start[0] == unit]
-        if any(start[1] <= period < self.end(start) for start in own):
+        own, last = [start for start in self.starts if start[0] == unit], self.plant.lasts[unit]
+        if last and period < last[1] or any(start[1] <= period < self.end(start) for start in own):
             return 0
         if any(of == unit and begin <= period < end for of, begin, end in self.plant.outages):
             return 1
         cleaned = [(self.end(self.before(start)), self.change(start)[0]) for start in own if self.before(start)]
+        cleaned += [(last[1], self.change(start)[0]) for start in own if last and not self.before(start)]
         return 2 if any(end <= period < end + gap for end, gap in cleaned) else 3
 
     def units_lines(self):

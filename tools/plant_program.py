@@ -76,6 +76,7 @@ class Plant:
     states: list = field(default_factory=list)
     utilities: list = field(default_factory=list)
     units: list = field(default_factory=list)
+    lasts: list = field(default_factory=list)  # (task, until) for each unit, or None: the batch that held it before the plan
     tasks: list = field(default_factory=list)
     runs: list = field(default_factory=list)
     gaps: list = field(default_factory=list)  # (unit, from, to, periods, cost)
@@ -191,8 +192,11 @@ class PlantFile:
         self.top.whole("version", 1, self.version)
         self.plant = Plant(self.top.whole("periods", 1, 336 if is_second else 96), self.version == 3)
         self.names = {"state": [], "utility": [], "unit": [], "task": []}
+        self.held_last = []  # for each unit its table and `until` where it names a task, which is read behind the units
         for array in arrays:
             getattr(self, "read_" + array)()
+            if array == "task":
+                self.read_lasts()
 
     def most(self, array):
         """How many items an array of the top has at most."""
@@ -230,8 +234,17 @@ class PlantFile:
             self.plant.utilities.append(Utility(limits, table.rates(self.plant.periods)))
 
     def read_unit(self):
-        for table in self.tables("unit", self.most("unit"), "name"):
+        for table in self.tables("unit", self.most("unit"), "name" + " last until" * (self.version == 3)):
             self.plant.units.append(table.own_name(self.names["unit"]))
+            has_last = "last" in table.keys and table.get("last", [str]) is not None
+            until = table.whole("until", -96, self.plant.periods, 0)
+            if "until" in table.keys and not has_last:
+                table.refuse(23, "until")
+            self.held_last.append((table, until) if has_last else None)
+
+    def read_lasts(self):
+        """The batches that held the units last, whose tasks are known by now."""
+        self.plant.lasts = [it and (it[0].named("last", self.names["task"]), it[1]) for it in self.held_last]
 
     def read_task(self):
         for table in self.tables("task", self.most("task"), "name quantum input output draw"):
@@ -279,7 +292,7 @@ class PlantFile:
     def read_gap(self):
         for table in self.tables("gap", self.most("gap"), "unit from to periods", "cost"):
             names = [table.named(key, self.names[of]) for key, of in (("unit", "unit"), ("from", "task"), ("to", "task"))]
-            periods = table.whole("periods", 1 if self.version == 1 else 0, 96)
+            periods = table.whole("periods", 1 if self.version == 1 else 0, 336 if self.version == 3 else 96)
             self.plant.gaps.append((*names, periods, table.whole("cost", 0, MILLION, 0)))
 
     def moved(self, table):
@@ -479,6 +492,31 @@ def gap_row(slots, own, a, b):
     return Row({**between, a: (1, 0), b: (1, 0)}, 1)
 
 
+def ready_at(plant, unit, task):
+    """The first time at which a first batch of the task may begin on the unit: after `until`, and the cleaning after `last`."""
+    last = plant.lasts[unit]
+    return last[1] + greatest_gap(plant, unit, last[0], task)[0] if last else 0
+
+
+def first_cost(plant, unit, task):
+    """What the changeover costs from the batch that held the unit last to a first one of the task."""
+    last = plant.lasts[unit]
+    return greatest_gap(plant, unit, last[0], task)[1] if last else 0
+
+
+def first_rows(plant, slots):
+    """By unit, then by slot b before the time at which b's task may begin as the first: a start in b, less those of the unit in
+    lesser periods, is at most 0."""
+    rows = []
+    for unit in range(len(plant.units)):
+        own = [j for j, slot in enumerate(slots) if slot.unit == unit]
+        ready = {task: ready_at(plant, unit, task) for task in {slots[j].task for j in own}}
+        for b in own:
+            if slots[b].period < ready[slots[b].task]:
+                rows.append(Row({**{j: (-1, 0) for j in own if slots[j].period < slots[b].period}, b: (1, 0)}, 0))
+    return rows
+
+
 @dataclass
 class Program:
     """The plant as sparse rows over slots. What a log declares adds slots and rows after the plant's."""
@@ -539,7 +577,7 @@ def program_of(plant):
     """The program of a plant: its slots, and its rows family by family."""
     slots = slots_of(plant)
     rows = busy_rows(plant, slots) + stock_rows(plant, slots, False) + stock_rows(plant, slots, True)
-    rows += load_rows(plant, slots) + gap_rows(plant, slots)
+    rows += load_rows(plant, slots) + gap_rows(plant, slots) + first_rows(plant, slots)
     runs = [plant.runs[slot.run] for slot in slots]
     domains = [(0, *range(run.least, run.greatest + 1)) for run in runs]
     profits = [profit_entry(plant, it) for it in slots]
@@ -553,11 +591,13 @@ def greatest_gap(plant, unit, before, after):
 
 
 def changeovers(program, point):
-    """What a point's changes cost: for each two batches that follow one another on a unit."""
+    """What a point's changes cost: to the first batch on a unit, and for each two batches that follow one another on it."""
     cost, last = 0, {}
     for slot in sorted((program.slots[j] for j in point if j < len(program.slots)), key=lambda it: it.period):
         if slot.unit in last:
             cost += greatest_gap(program.plant, slot.unit, last[slot.unit], slot.task)[1]
+        else:
+            cost += first_cost(program.plant, slot.unit, slot.task)
         last[slot.unit] = slot.task
     return cost
 

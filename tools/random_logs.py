@@ -1,7 +1,7 @@
 """Logs made at random over the program of a plant, as a part of compare_checkers.py: of version 2, of version 3 with sums in
-their head, and of version 4 with sums, cuts and derived rows."""
+their head, and of version 4 with sums, setups of units, cuts and derived rows."""
 
-from declared import Cut, DerivedRow, Sum, holds_one
+from declared import Cut, DerivedRow, Setup, Sum, holds_one
 from log_judge import Judge
 from log_text import NEWEST, Defect, LogText
 from plant_program import entry_at
@@ -14,6 +14,7 @@ def random_log(dice, program):
     if version > 2:
         lines += [line for it in range(dice.choice((0, 1, 2))) for line in random_sum(dice, program, larger)]
     if version > 3:
+        lines += random_setups(dice, program, larger)
         lines += [line for it in range(dice.choice((1, 1, 2, 4))) for line in random_derivation(dice, larger)]
     slots, rows = len(larger.domains), len(larger.rows)
     lines += random_tree(dice, slots, rows, dice.randint(0, 4)) if slots else ["node", "dual 1 0"]
@@ -87,6 +88,14 @@ def random_sum(dice, program, larger):
 def entry_lines(name, entries):
     """Lines of entries, by slot."""
     return [f"{name} {j} {fixed} {per}" for j, (fixed, per) in sorted(entries.items())]
+
+
+def random_setups(dice, program, larger):
+    """The setups of some units."""
+    units = [it for it in range(len(program.plant.units)) if dice.random() < 0.3]
+    for unit in units:
+        Setup(program, unit).declare(larger)
+    return [f"setup {unit}" for unit in units]
 
 
 def random_derivation(dice, larger):

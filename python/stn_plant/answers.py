@@ -98,7 +98,7 @@ class Standing:
 
     profit: what it earns, where it is.
     kind, places: what it breaks first, where it is not: `unfit`, `busy`, `gap`, `stock-low`, `stock-high` or `load`, with places of the
-        plan from 1, or a state and a time, or a utility and a period.
+        plan from 1 (0 in `gap`: the batch that held the unit before), or a state and a time, or a utility and a period.
     sentence: what that means and what to do.
     """
 

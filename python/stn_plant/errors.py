@@ -71,7 +71,8 @@ class BrokenPlan(StnError):
     """The plan is not feasible, and what was asked needs one that is.
 
     kind: `unfit`, `busy`, `gap`, `stock-low`, `stock-high` or `load`.
-    places: what follows in the program's line: places of the plan from 1, or a state and a time, or a utility and a period.
+    places: what follows in the program's line: places of the plan from 1 (0 in `gap`: the batch that held the unit before), or a
+        state and a time, or a utility and a period.
     """
 
     kind: str

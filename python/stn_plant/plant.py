@@ -49,9 +49,15 @@ class Utility:
 
 @dataclass
 class Unit:
-    """A vessel or a machine, with one batch at a time."""
+    """A vessel or a machine, with one batch at a time.
+
+    last: the task of the batch that held it before the plan, and until: the time at which that batch ends, below 0 where it is over
+    (version 3).
+    """
 
     name: str
+    last: str | None = None
+    until: int = 0
 
 
 @dataclass
@@ -356,6 +362,8 @@ def tables(item):
     for each in dataclasses.fields(item):
         value = getattr(item, each.name)
         if each.name == "rate" and value == 0 and item.rates is not None:
+            continue
+        if each.name == "until" and value == 0:
             continue
         if isinstance(value, list) and value and dataclasses.is_dataclass(value[0]):
             found[key_of(each.name)] = [tables(it) for it in value]

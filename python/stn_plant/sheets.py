@@ -38,7 +38,7 @@ def columns(table):
 def kind_of(each):
     if each.name == "part":
         return "part"
-    return "list" if "list" in str(each.type) else "text" if each.type in (str, "str") else "whole"
+    return "list" if "list" in str(each.type) else "text" if "str" in str(each.type) else "whole"
 
 
 TABLES = {name: columns(name) for name in ("plant", "state", "utility", "unit", "task", "input", "output", "draw", "run", "gap", "receipt",

@@ -6,6 +6,7 @@ from pathlib import Path
 from stn_plant import (Batch, BrokenPlan, Draw, Gap, Input, InvalidLog, Log, NotInstalled, Outage, Plan, Plant, Refused, Run,
                        State, StnError, Task, Unit, Utility)
 from stn_plant.answers import Claim, Report, Solution, Violation, numbered, rows
+from stn_plant.plant import record
 from tests.here import EXAMPLES, has, needs_program
 
 TINY = [(0, "U", "make", 3), (1, "U", "make", 3)]
@@ -37,11 +38,12 @@ class Texts(unittest.TestCase):
     def test_a_violation(self):
         self.assertEqual(Violation.of("unfit 2 size".split(" ")), Violation("unfit", [2, "size"]))
         self.assertEqual(Violation.of("gap 1 3 by 2".split(" ")), Violation("gap", [1, 3], 2))
+        self.assertEqual(Violation.of("gap 0 3 by 2".split(" ")), Violation("gap", [0, 3], 2))
         self.assertEqual(Violation.of("stock-low feed 0 by 4".split(" ")), Violation("stock-low", ["feed", 0], 4))
 
     def test_slots(self):
-        text = "slots 1\nslot 0 U make 0 1 3\nrows 2\nrow 0 busy U 0\nrow 1 gap U 0 1\n"
-        self.assertEqual(numbered(text.splitlines()), ([["U", "make", 0, 1, 3]], [["busy", "U", 0], ["gap", "U", 0, 1]]))
+        text = "slots 1\nslot 0 U make 0 1 3\nrows 3\nrow 0 busy U 0\nrow 1 gap U 0 1\nrow 2 last U 0\n"
+        self.assertEqual(numbered(text.splitlines()), ([["U", "make", 0, 1, 3]], [["busy", "U", 0], ["gap", "U", 0, 1], ["last", "U", 0]]))
 
     def test_a_table(self):
         text = "state,time,stock,limit,receipt,delivery\noil,0,-4,,0,0\noil,1,6,9,10,0\n"
@@ -73,6 +75,12 @@ class Texts(unittest.TestCase):
                       "draw": [{"utility": "w", "fixed": [1], "each": [0]}]}],
             "run": [{"task": "t", "unit": "U", "min": 1, "max": 2, "cost": 0}],
             "gap": [{"unit": "U", "from": "t", "to": "t", "periods": 1, "cost": 0}], "outage": [{"unit": "U", "from": 0, "to": 1}]})
+
+    def test_units_that_a_batch_held_before(self):
+        plant = Plant(3, unit=[Unit("U", "t", 2), Unit("V", "t"), Unit("W")], version=3)
+        units = [{"name": "U", "last": "t", "until": 2}, {"name": "V", "last": "t"}, {"name": "W"}]
+        self.assertEqual(tomllib.loads(plant.text()), {"version": 3, "periods": 3, "unit": units})
+        self.assertEqual([record(Unit, it) for it in units], plant.unit)
 
 
 @needs_program

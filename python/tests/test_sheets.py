@@ -87,6 +87,15 @@ class Examples(Room):
         self.assertTrue(raised.exception.file.endswith("other.xlsx, sheet input"), raised.exception.file)
 
 
+class Columns(unittest.TestCase):
+    """What stands in a table, without the program."""
+
+    def test_units_that_a_batch_held_before(self):
+        plant = Plant(3, unit=[Unit("U", "t", -2), Unit("V", "t"), Unit("W")], version=3)
+        self.assertEqual(sheets.lines(plant)["unit"], [["name", "last", "until"], ["U", "t", -2], ["V", "t", None], ["W", None, None]])
+        self.assertEqual(sheets.TABLES["unit"], {"name": "text", "last": "text", "until": "whole"})
+
+
 class Faults(Room):
     """What is no set of tables; the program is not asked."""
 

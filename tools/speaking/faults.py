@@ -9,7 +9,7 @@ from speaking.toml_places import Document
 
 INNER = ("input", "output", "draw")
 # The table whose items declare the names that a key holds.
-DECLARES = {"state": "state", "unit": "unit", "utility": "utility", "task": "task", "from": "task", "to": "task"}
+DECLARES = {"state": "state", "unit": "unit", "utility": "utility", "task": "task", "from": "task", "to": "task", "last": "task"}
 
 
 class Fault:
@@ -124,6 +124,8 @@ def range_of(fault, what):
     periods = whole(fault.document.root, "periods")
     if fault.key == "time" or (fault.table == "outage" and fault.key == "to"):
         return f"{0 if fault.key == 'time' else 1} to {periods}, the horizon,"
+    if fault.key == "until":
+        return f"-96 to {periods}, the horizon,"
     if fault.table == "outage" and fault.key == "from":
         return f"0 to {periods - 1}, the last period,"
     return fields.allowed(what)
@@ -233,6 +235,11 @@ def empty_outage(fault):
     return fault.value().at, f"{fault.name()} lasts from {fault.value('from').held} to {fault.value('to').held}: `from` has to be below `to`"
 
 
+def no_last(fault):
+    return fault.value().at, f"{fault.name()} has `until`, and no `last`: the task of the batch that ends then is wanted"
+
+
 TELLERS = {1: too_large, 2: no_document, 3: unknown_key, 4: unknown_key, 5: absent, 6: other_type, 7: out_of_range, 8: no_name,
            9: named_twice, 10: not_declared, 11: no_fraction, 12: no_sum, 13: not_whole, 14: too_many, 15: ends_crossed, 16: run_twice,
-           17: wrong_length, 18: too_many_slots, 19: too_many_pairs, 21: both_given, 22: empty_outage}
+           17: wrong_length, 18: too_many_slots, 19: too_many_pairs, 21: both_given, 22: empty_outage,
+           23: no_last}

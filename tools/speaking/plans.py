@@ -132,11 +132,21 @@ class Broken:
         return f"two batches meet on `{first.unit}`: {first.named()} runs to time {self.ends(first)}, and {second.named()} begins before"
 
     def gap(self):
+        if self.words[1] == "0":
+            return self.early(self.batch(self.words[2]))
         first, second = self.batch(self.words[1]), self.batch(self.words[2])
         gap = self.plant.gaps.get((first.unit, first.task, second.task), 0)
         short_by = self.ends(first) + gap - second.period
         return (f"`{first.unit}` is not clean: after {first.named()}, which ends at time {self.ends(first)}, it is cleaned for "
                 f"{count(gap, 'period')}, so {second.named()} begins {count(short_by, 'period')} too early")
+
+    def early(self, batch):
+        """The first batch on a unit begins before it is ready after the batch that held it before the plan."""
+        task, until = self.plant.lasts.get(batch.unit, (None, 0))
+        gap = self.plant.gaps.get((batch.unit, task, batch.task), 0)
+        clean = f" and is cleaned for {count(gap, 'period')}" if gap else ""
+        return (f"`{batch.unit}` is not ready: a batch of `{task}` held it before the plan, which ends at time {until}{clean}, so "
+                f"{batch.named()} begins {count(until + gap - batch.period, 'period')} too early")
 
     def movers(self, state, time, gives):
         """The batches that take from a state at a time, or give to it, by name."""

@@ -55,6 +55,7 @@ class Plant:
         self.states = {held(it, "name"): it for it in rows(root, "state")}
         self.utilities = {held(it, "name"): it for it in rows(root, "utility")}
         self.units = [held(it, "name") for it in rows(root, "unit")]
+        self.lasts = {held(it, "name"): (held(it, "last"), whole(it, "until")) for it in rows(root, "unit") if held(it, "last") is not None}
         self.tasks = {held(it, "name"): Task(it) for it in rows(root, "task")}
         self.runs = [(held(it, "task"), held(it, "unit"), whole(it, "min"), whole(it, "max")) for it in rows(root, "run")]
         self.gaps = {}

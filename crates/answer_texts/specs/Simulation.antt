@@ -4,7 +4,7 @@ use Rattle.stn_model.specs.declared.plant.Plant.{Plant}
 use Rattle.stn_model.specs.declared.start.Start.{Start}
 use Rattle.stn_model.specs.Plant.{state_at, utility_at}
 use Rattle.stn_model.specs.declared.violation.Violation.{Violation}
-use Rattle.stn_model.specs.declared.violation.Violation.TheVariants.{Unfit, Busy, Gap, StockLow, StockHigh, Load}
+use Rattle.stn_model.specs.declared.violation.Violation.TheVariants.{Unfit, Busy, Early, Gap, StockLow, StockHigh, Load}
 use Rattle.plan_sim.specs.declared.verdict.Verdict.{Verdict}
 use Rattle.plan_sim.specs.declared.verdict.Verdict.TheVariants.{Feasible, Broken}
 use Rattle.plan_sim.specs.Verdicts.{IsPlanVerdict}
@@ -16,6 +16,10 @@ use Rattle.answer_texts.specs.Violations.{violations_text}
 use Rattle.command_words.specs.declared.command.PlanUse.{PlanUse}
 use Rattle.command_words.specs.declared.command.PlanUse.TheVariants.{Simulate, Report, Picture, Table, Violations}
 
+-- a line on a place of a plan, which is counted from 1
+abbrev pub place_line : List ℕ → ℕ → List ℕ
+place_line what place = what ++ (decimal (place + 1) ++ codes "\n")
+
 -- a line on two places of a plan, which are counted from 1
 abbrev pub pair_line : List ℕ → ℕ → ℕ → List ℕ
 pair_line what first second = what ++ (decimal (first + 1) ++ (codes " " ++ (decimal (second + 1) ++ codes "\n")))
@@ -24,10 +28,11 @@ pair_line what first second = what ++ (decimal (first + 1) ++ (codes " " ++ (dec
 abbrev pub named_line : List ℕ → List ℕ → ℕ → List ℕ
 named_line what name number = what ++ (name ++ (codes " " ++ (decimal number ++ codes "\n")))
 
--- the line on what a plan breaks first: places count from 1, states and utilities go by name
+-- the line on what a plan breaks first: places count from 1, states and utilities go by name, and 0 stands for the batch before the plan
 unfoldable pub violation_text : Plant → Violation → List ℕ
-violation_text plant (Unfit place) = codes "broken unfit " ++ (decimal (place + 1) ++ codes "\n")
+violation_text plant (Unfit place) = place_line (codes "broken unfit ") place
 violation_text plant (Busy first second) = pair_line (codes "broken busy ") first second
+violation_text plant (Early place) = place_line (codes "broken gap 0 ") place
 violation_text plant (Gap first second) = pair_line (codes "broken gap ") first second
 violation_text plant (StockLow state time) = named_line (codes "broken stock-low ") (state_at plant state).name time
 violation_text plant (StockHigh state time) = named_line (codes "broken stock-high ") (state_at plant state).name time
@@ -63,6 +68,7 @@ verdict_status (Broken violation) = 1
 abbrev pub IsOfPlant : Plant → Violation → Type 0
 IsOfPlant plant (Unfit place) = Unit {0}
 IsOfPlant plant (Busy first second) = Unit {0}
+IsOfPlant plant (Early place) = Unit {0}
 IsOfPlant plant (Gap first second) = Unit {0}
 IsOfPlant plant (StockLow state time) = state < length plant.states
 IsOfPlant plant (StockHigh state time) = state < length plant.states

@@ -1,8 +1,9 @@
 //! What a plan earns or breaks first, its report, its picture, its tables, and everything that it breaks.
-ghost use Rattle.std.specs.Prelude.{◌≡◌, ◌+◌, ◌<◌, ◌^◌, ◌++◌, length, IfOk, codes, decimal};
+ghost use Rattle.std.specs.Prelude.{◌≡◌, ◌<◌, ◌^◌, length, IfOk};
 ghost use Rattle.stn_model.specs.Plant.{state_at, utility_at};
 ghost use Rattle.stn_model.specs.Sound.{Sound};
 ghost use Rattle.answer_texts.specs.Simulation.{
+  place_line,
   pair_line,
   named_line,
   violation_text,
@@ -125,8 +126,9 @@ pub fn violation_text(
     ensures { IfOk result (λ text. text.items ≡ violation_text plant.now violation.now) }
 {
     match violation {
-        Violation::Unfit { place } => unfit_text(alloc, *place),
+        Violation::Unfit { place } => place_text(alloc, "broken unfit ", *place),
         Violation::Busy { first, second } => pair_text(alloc, "broken busy ", *first, *second),
+        Violation::Early { place } => place_text(alloc, "broken gap 0 ", *place),
         Violation::Gap { first, second } => pair_text(alloc, "broken gap ", *first, *second),
         Violation::StockLow { state, time } => {
             named_text(alloc, "broken stock-low ", state_name(plant, *state), *time)
@@ -164,12 +166,11 @@ fn utility_name(plant: &Plant, utility: u32) -> &[u8]
     plant.utilities.get(utility as usize).name.as_slice()
 }
 
-fn unfit_text(alloc: Global, place: u32) -> Result<Vec<u8>, AllocError>
-    ensures { IfOk result (λ text. text.items
-        ≡ codes "broken unfit " ++ (decimal (place + 1) ++ codes "\n")) }
+fn place_text(alloc: Global, what: &str, place: u32) -> Result<Vec<u8>, AllocError>
+    ensures { IfOk result (λ text. text.items ≡ place_line what.now place) }
 {
     let number = place as u64 + 1;
-    let line = format!(in alloc; "broken unfit {number}\n")?;
+    let line = format!(in alloc; "{what}{number}\n")?;
     Vec::from_slice(alloc, line.as_bytes())
 }
 

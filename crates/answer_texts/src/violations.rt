@@ -6,6 +6,7 @@ ghost use Rattle.stn_model.specs.Sound.{Sound};
 ghost use Rattle.answer_texts.specs.Violations.{
   misfit_word,
   two_places,
+  place_by,
   pair_by,
   named_by,
   breach_line,
@@ -61,6 +62,7 @@ fn breach_line(alloc: Global, plant: &Plant, breach: &Breach) -> Result<Vec<u8>,
     match breach {
         Breach::Unfit { place, cause } => unfit_line(alloc, *place, *cause),
         Breach::Busy { first, second } => busy_line(alloc, *first, *second),
+        Breach::Early { place, early } => early_line(alloc, *place, *early),
         Breach::Gap {
             first,
             second,
@@ -135,6 +137,14 @@ fn busy_line(alloc: Global, first: u32, second: u32) -> Result<Vec<u8>, AllocErr
     let a = first as u64 + 1;
     let b = second as u64 + 1;
     let line = format!(in alloc; "busy {a} {b}\n")?;
+    Vec::from_slice(alloc, line.as_bytes())
+}
+
+fn early_line(alloc: Global, place: u32, early: u128) -> Result<Vec<u8>, AllocError>
+    ensures { IfOk result (λ text. text.items ≡ place_by (codes "gap 0 ") place early) }
+{
+    let number = place as u64 + 1;
+    let line = format!(in alloc; "gap 0 {number} by {early}\n")?;
     Vec::from_slice(alloc, line.as_bytes())
 }
 

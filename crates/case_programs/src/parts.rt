@@ -76,7 +76,7 @@ fn take_row(alloc: Global, rows: &mut List<Row>, sheet: &mut Sheet) -> Tried {
     rows.push(row)
 }
 
-// `slot DOMAIN FIXED PER` or `slot DOMAIN FIXED PER LANE PLACE KIND`.
+// `slot DOMAIN FIXED PER`, and LANE PLACE KIND or LANE PLACE KIND OPENING behind it.
 fn take_slot(parts: &mut Parts, sheet: &mut Sheet) -> Tried {
     parts.root.push(domain_of(sheet))?;
     let entry = worth_of(parts.profit.len().min(100_000) as u32, sheet);

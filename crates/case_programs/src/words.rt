@@ -34,19 +34,35 @@ pub(crate) fn worth_of(slot: u32, sheet: &mut Sheet) -> Entry {
     Entry { slot, fixed, per }
 }
 
-// `LANE PLACE KIND` at the end of a slot's step; without one the tag is that of no unit that others are on.
+// `LANE PLACE KIND` or `LANE PLACE KIND OPENING` at the end of a slot's step; without one the tag is that of no unit that others
+// are on.
 pub(crate) fn tag_of(sheet: &mut Sheet) -> Tag {
     if sheet.words_left() == 0 {
         return Tag {
             lane: 0,
             place: 0,
             kind: 0,
+            opening: 0,
         };
     }
     let lane = sheet.number();
     let place = sheet.number();
     let kind = sheet.number();
-    Tag { lane, place, kind }
+    let opening = opening_of(sheet);
+    Tag {
+        lane,
+        place,
+        kind,
+        opening,
+    }
+}
+
+// The opening at the end of a slot's step, which is 0 where none stands.
+fn opening_of(sheet: &mut Sheet) -> u32 {
+    if sheet.words_left() == 0 {
+        return 0;
+    }
+    sheet.number()
 }
 
 // `LIMIT | SLOT FIXED PER | ..`.

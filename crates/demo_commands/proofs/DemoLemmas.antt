@@ -78,6 +78,7 @@ idle-Feasible seed = record {
   fits = λ k d within. absurd (omega arith);
   apart = λ i j d less within. absurd (omega arith);
   cleaned = λ k d within. absurd (omega arith);
+  begun = λ k d within. absurd (omega arith);
   stocks = λ state time within most. idle-kept seed state time within;
   loads = λ utility period within before. omega arith;
 }

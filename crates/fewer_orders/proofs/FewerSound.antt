@@ -1,11 +1,14 @@
 -- The plant with some of its deliveries alone is sound.
 use Rattle.std.proofs.Common.{◌≡◌, Bool, List, length, refl, arith}
+use Rattle.std.proofs.lemmas.Option.{IfSome_then}
 use Rattle.stn_model.specs.declared.plant.Plant.{Plant}
+use Rattle.stn_model.specs.declared.plant.StnUnit.{StnUnit}
+use Rattle.stn_model.specs.declared.plant.Last.{Last}
 use Rattle.stn_model.specs.declared.plant.Delivery.{Delivery}
 use Rattle.stn_model.specs.Plant.{run_on, end_of, is_in_use, gap_between}
 use Rattle.stn_model.specs.Fits.{is_fit}
 use Rattle.stn_model.specs.Points.{has_slot, slots_of, slot_count, meets_gap, gap_pairs}
-use Rattle.stn_model.specs.Sound.{Sound, SoundTask, SoundRun, SoundGap, SoundReceipt, SoundDelivery, SoundOutage, SoundCounts, SmallCounts}
+use Rattle.stn_model.specs.Sound.{Sound, SoundLast, SoundUnit, SoundTask, SoundRun, SoundGap, SoundReceipt, SoundDelivery, SoundOutage, SoundCounts, SmallCounts}
 use Rattle.plant_copies.proofs.Alike.{All-each, AreAlike, task_sound, run_sound, gap_sound}
 use Rattle.fewer_orders.specs.Alone.{alone, picked}
 use Rattle.fewer_orders.proofs.Picked.{length-picked, All-picked}
@@ -50,11 +53,20 @@ small_sound plant kept counts = record {
   slots = let few = counts.slots in omega (arith, same_slots plant kept);
   gap_pairs = let few = counts.gap_pairs in omega (arith, same_pairs plant kept);
   rates = counts.rates;
+  gaps = counts.gaps;
+  lasts = counts.lasts;
 }
 
 alike : (plant : Plant) (kept : List Bool) → AreAlike (alone plant kept) plant
 unfolding alone
 alike plant kept = record { states = refl; utilities = refl; units = refl; tasks = refl }
+
+last_sound : (plant : Plant) (kept : List Bool) (last : Last) → SoundLast plant last → SoundLast (alone plant kept) last
+unfolding alone
+last_sound plant kept last sound = record { task = sound.task; early = sound.early; late = sound.late }
+
+unit_sound : (plant : Plant) (kept : List Bool) (unit : StnUnit) → SoundUnit plant unit → SoundUnit (alone plant kept) unit
+unit_sound plant kept unit sound = record { name = sound.name; last = IfSome_then unit.last sound.last (last_sound plant kept) }
 
 delivery_sound : (plant : Plant) (kept : List Bool) (delivery : Delivery) → SoundDelivery plant delivery → SoundDelivery (alone plant kept) delivery
 unfolding alone
@@ -72,7 +84,7 @@ fewer_sound plant kept each sound =
       names = record { states = sound.names.states; utilities = sound.names.utilities; units = sound.names.units; tasks = sound.names.tasks; runs = sound.names.runs };
       states = sound.states;
       utilities = sound.utilities;
-      units = sound.units;
+      units = All-each (SoundUnit plant) (SoundUnit fewer) plant.units (unit_sound plant kept) sound.units;
       tasks = All-each (SoundTask plant) (SoundTask fewer) plant.tasks (λ task. task_sound fewer plant task same) sound.tasks;
       runs = All-each (SoundRun plant) (SoundRun fewer) plant.runs (λ run. run_sound fewer plant run same) sound.runs;
       gaps = All-each (SoundGap plant) (SoundGap fewer) plant.gaps (λ gap. gap_sound fewer plant gap same) sound.gaps;

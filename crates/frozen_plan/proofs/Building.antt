@@ -11,11 +11,11 @@ use Rattle.time_grid.specs.PlanPoint.{quanta_in, plan_point, HasPoint}
 use Rattle.time_grid.proofs.PlanPoints.{plan_point-at}
 use Rattle.row_kit.specs.declared.domain.Domain.{Domain}
 use Rattle.row_kit.specs.declared.program.Program.{Program}
-use Rattle.row_kit.specs.Domain.{IsNormal, IsOpen}
+use Rattle.row_kit.specs.Domain.{IsNormal}
 use Rattle.row_kit.specs.Bounds.{KeepsBounds, AreBounded, IsBoundedRow}
 use Rattle.row_set.specs.PlantProgram.{slot_domain}
 use Rattle.frozen_plan.specs.Frozen.{only, frozen_domain, frozen_root}
-use Rattle.frozen_plan.proofs.Domains.{frozen-normal, frozen-open}
+use Rattle.frozen_plan.proofs.Domains.{frozen-normal}
 
 -- the domain that is made at a place is the one of its slot
 pub domain-made : (plant : Plant) (period : ℕ) (kept : List Start) (whole : List Domain) (point : List ℕ) (place : ℕ) (slot : ℕ × ℕ) (own made : Domain) →
@@ -57,4 +57,5 @@ frozen-bounds plant period kept whole root sound has own_is root_is =
       base_bounded = whole.base_bounded;
       one_tag = whole.one_tag ∙ sym same;
       costs_bounded = whole.costs_bounded;
+      openings_bounded = whole.openings_bounded;
     }

@@ -9,7 +9,7 @@ use Rattle.std.proofs.lemmas.List.Sums.{length-filter, count_by-le-length}
 use Rattle.stn_model.specs.declared.plant.Plant.{Plant}
 use Rattle.stn_model.specs.declared.start.Start.{Start}
 use Rattle.stn_model.specs.declared.violation.Violation.{Violation}
-use Rattle.stn_model.specs.declared.violation.Violation.TheVariants.{Unfit, Busy, Gap, StockLow, StockHigh, Load}
+use Rattle.stn_model.specs.declared.violation.Violation.TheVariants.{Unfit, Busy, Early, Gap, StockLow, StockHigh, Load}
 use Rattle.stn_model.specs.Plant.{end_of}
 use Rattle.stn_model.specs.Fits.{Fits, is_fit}
 use Rattle.stn_model.specs.Batches.{Apart}
@@ -59,6 +59,7 @@ pub verdict-starts : (plant : Plant) (starts : List Start) (said : Verdict) → 
 verdict-starts plant starts (verdict.Feasible earned) right = record { fits = right.0.fits; apart = right.0.apart }
 verdict-starts plant starts (verdict.Broken (Unfit place)) right = (tt, right)
 verdict-starts plant starts (verdict.Broken (Busy first second)) right = (tt, right)
+verdict-starts plant starts (verdict.Broken (Early place)) right = later-together plant starts (Early place) right (λ p. inl (omega arith)) (λ f s. inl (omega arith))
 verdict-starts plant starts (verdict.Broken (Gap first second)) right = later-together plant starts (Gap first second) right (λ p. inl (omega arith)) (λ f s. inl (omega arith))
 verdict-starts plant starts (verdict.Broken (StockLow state time)) right = later-together plant starts (StockLow state time) right (λ p. inl (omega arith)) (λ f s. inl (omega arith))
 verdict-starts plant starts (verdict.Broken (StockHigh state time)) right = later-together plant starts (StockHigh state time) right (λ p. inl (omega arith)) (λ f s. inl (omega arith))
@@ -84,6 +85,7 @@ keeps-together plant period kept plan keeps =
 broken-apart : (plant : Plant) (starts : List Start) (violation : Violation) → IsOfStarts violation → BreaksFirst plant starts violation → ¬ StandTogether plant starts
 broken-apart plant starts (Unfit place) of first together = first.breaks.1 (together.fits place no_start first.breaks.0)
 broken-apart plant starts (Busy first second) of breaks together = breaks.breaks.2 (together.apart first second no_start breaks.breaks.0 breaks.breaks.1)
+broken-apart plant starts (Early place) of breaks together = of
 broken-apart plant starts (Gap first second) of breaks together = of
 broken-apart plant starts (StockLow state time) of breaks together = of
 broken-apart plant starts (StockHigh state time) of breaks together = of

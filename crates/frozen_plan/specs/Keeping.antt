@@ -3,7 +3,7 @@ use Rattle.std.specs.Prelude.{◌≡◌, ◌↔◌, ⊤, ℕ, Option, Some, None
 use Rattle.stn_model.specs.declared.plant.Plant.{Plant}
 use Rattle.stn_model.specs.declared.start.Start.{Start}
 use Rattle.stn_model.specs.declared.violation.Violation.{Violation}
-use Rattle.stn_model.specs.declared.violation.Violation.TheVariants.{Unfit, Busy, Gap, StockLow, StockHigh, Load}
+use Rattle.stn_model.specs.declared.violation.Violation.TheVariants.{Unfit, Busy, Early, Gap, StockLow, StockHigh, Load}
 use Rattle.stn_model.specs.Fits.{Fits}
 use Rattle.stn_model.specs.Batches.{Apart}
 use Rattle.stn_model.specs.Feasible.{Feasible}
@@ -30,6 +30,7 @@ pub record StandTogether (plant : Plant) (starts : List Start) : Type 0 where
 abbrev pub IsOfStarts : Violation → Type 0
 IsOfStarts (Unfit place) = ⊤
 IsOfStarts (Busy first second) = ⊤
+IsOfStarts (Early place) = ⊥
 IsOfStarts (Gap first second) = ⊥
 IsOfStarts (StockLow state time) = ⊥
 IsOfStarts (StockHigh state time) = ⊥
@@ -60,6 +61,7 @@ abbrev pub broken_start : Verdict → Option Violation
 broken_start (verdict.Feasible earned) = None
 broken_start (verdict.Broken (Unfit place)) = Some (Unfit place)
 broken_start (verdict.Broken (Busy first second)) = Some (Busy first second)
+broken_start (verdict.Broken (Early place)) = None
 broken_start (verdict.Broken (Gap first second)) = None
 broken_start (verdict.Broken (StockLow state time)) = None
 broken_start (verdict.Broken (StockHigh state time)) = None

@@ -23,7 +23,7 @@ unfoldable pub batch_cell : ℕ → Start → List ℕ
 batch_cell byte start = byte ∷ two_digits (start.task + 1)
 
 -- A cell shows the batch that begins ('|', 124), else the one that goes on (a blank, 32), else that
--- the unit is idle.
+-- the unit runs none of the plan.
 abbrev pub cell_of : Option Start → Option Start → List ℕ
 cell_of (Some first) later = batch_cell 124 first
 cell_of None (Some later) = batch_cell 32 later

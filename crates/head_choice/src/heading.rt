@@ -58,7 +58,7 @@ pub fn with_head<A: Advisers>(
     requires part { IsPartOf plant.now part }
     requires ranges { AreRanges part judged }
     requires few_slots { length part.root ≤ slot_limit plant.now }
-    requires few_rows { length part.rows ≤ 194368 }
+    requires few_rows { length part.rows ≤ 198464 }
     ensures { IfOk result (IsHeaded plant.now part judged) }
 {
     let given = part.root.len();

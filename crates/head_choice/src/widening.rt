@@ -52,7 +52,7 @@ pub fn wide_part(
     requires part { IsPartOf plant.now part }
     requires ranges { AreRanges part judged }
     requires few_slots { length part.root ≤ slot_limit plant.now }
-    requires few_rows { length part.rows ≤ 194368 }
+    requires few_rows { length part.rows ≤ 198464 }
     ensures { IfOk result (IsWidened plant.now part judged) }
 {
     let given = part.root.len();
@@ -78,7 +78,7 @@ fn sums_for(
     requires ranges { AreRanges part judged.now }
     requires few_slots { length part.root ≤ most }
     requires room { most ≤ 4096 }
-    requires few_rows { length part.rows ≤ 194368 }
+    requires few_rows { length part.rows ≤ 198464 }
     ensures { IfOk result (λ made. AreChosen most part judged.now made.sums made.program) }
 {
     let sums = choose_sums(alloc, &part, judged, most)?;

@@ -23,7 +23,7 @@ use Rattle.command_replies.specs.Answers.{IsUnwritten}
 use Rattle.command_replies.proofs.AnswerLemmas.{written}
 use Rattle.command_replies.specs.declared.reply.Reply.{Reply}
 use Rattle.horizon_commands.specs.Seeking.{log_names, least_status, least_text, EarnsMoney, NamesItems, Sought}
-use Rattle.horizon_commands.proofs.LeastTexts.{least-reads-back}
+use Rattle.horizon_commands.proofs.LeastTexts.{least-reads-back, unit-within}
 use Rattle.answer_texts.proofs.Named.{named-Feasible}
 
 -- what holds of all names of logs holds of each
@@ -45,7 +45,7 @@ all_logs_allowed may stem horizon all g some below = each_log (λ name. IsTrue (
 pub named-least : (plant : Plant) (said : LeastAnswer) → Sound plant → IsRight plant said → NamesItems plant said
 unfolding plant_at
 named-least plant (At horizon earned plan) sound right =
-    λ k d within. let named = named-Feasible (plant_at plant horizon) plan (shorter_sound plant horizon sound right.0) right.1.1.0 k d within in record { unit = named.unit; task = named.task }
+    λ k d within. let named = named-Feasible (plant_at plant horizon) plan (shorter_sound plant horizon sound right.0) right.1.1.0 k d within in record { unit = unit-within plant horizon _ named.unit; task = named.task }
 named-least plant Nowhere sound right = tt
 named-least plant (Open horizon) sound right = tt
 

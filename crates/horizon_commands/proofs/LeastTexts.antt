@@ -1,8 +1,9 @@
 -- The text of a least horizon, read as plan text, says the answer's plan.
-use Rattle.std.proofs.Common.{◌≡◌, ℕ, ℤ, ◌<◌, ◌≤◌, ◌^◌, List, [], ◌∷◌, ◌++◌, length, codes, decimal, refl, sym, ap, ◌∙◌, arith, append_assoc, length-append}
+use Rattle.std.proofs.Common.{◌≡◌, ℕ, ℤ, ◌<◌, ◌≤◌, ◌^◌, List, [], ◌∷◌, ◌++◌, length, codes, decimal, refl, sym, ap, subst, ◌∙◌, arith, append_assoc, length-append}
 use Rattle.std.specs.Prelude.{All, Ok}
 use Rattle.std.specs.Fmt.{signed_decimal}
 use Rattle.std.proofs.lemmas.Fmt.{length-decimal-le_wide}
+use Rattle.std.proofs.lemmas.List.{length-map}
 use Rattle.stn_model.specs.declared.plant.Plant.{Plant}
 use Rattle.stn_model.specs.declared.start.Start.{Start}
 use Rattle.stn_model.specs.Sound.{Sound}
@@ -13,7 +14,7 @@ use Rattle.plan_text.specs.ReadsBack.{IsRemark, IsWritable}
 use Rattle.plan_text.specs.Published.{most_lines}
 use Rattle.least_horizon.specs.declared.answer.LeastAnswer.{LeastAnswer}
 use Rattle.least_horizon.specs.declared.answer.LeastAnswer.TheVariants.{At, Nowhere, Open}
-use Rattle.shorter_plant.specs.PlantAt.{plant_at}
+use Rattle.shorter_plant.specs.PlantAt.{plant_at, unit_until}
 use Rattle.least_horizon.specs.Least.{IsRight}
 use Rattle.shorter_plant.proofs.ShorterSound.{shorter_sound}
 use Rattle.horizon_commands.specs.Seeking.{least_text, EarnsMoney, shown_plan}
@@ -34,12 +35,17 @@ earning word earned plain short money =
     let long = length-append word (signed_decimal earned) in
     (after_word word (signed_decimal earned) plain amount.0, omega (arith, amount.1, long, short))
 
+-- a unit of the plant within a shorter horizon is one of the plant
+pub unit-within : (plant : Plant) (horizon unit : ℕ) → unit < length (plant_at plant horizon).units → unit < length plant.units
+unfolding plant_at
+unit-within plant horizon unit within = subst (λ (n : ℕ). unit < n) (length-map plant.units (unit_until horizon)) within
+
 -- the lines of a plan within a shorter horizon can be written
 writable-within : (plant : Plant) (horizon : ℕ) (plan : List Start) → Sound (plant_at plant horizon) → Feasible (plant_at plant horizon) plan → All (IsWritable plant) plan
 unfolding plant_at
 writable-within plant horizon plan sound feasible k d within =
     let is = writable (plant_at plant horizon) plan sound feasible k d within in
-    record { named = record { unit = is.named.unit; task = is.named.task }; period = is.period; quanta = is.quanta }
+    record { named = record { unit = unit-within plant horizon _ is.named.unit; task = is.named.task }; period = is.period; quanta = is.quanta }
 
 -- and are as few as a text may have
 few-within : (plant : Plant) (horizon : ℕ) (plan : List Start) → Sound (plant_at plant horizon) → Feasible (plant_at plant horizon) plan → length plan ≤ most_lines plant

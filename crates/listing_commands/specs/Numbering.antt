@@ -6,7 +6,7 @@ use Rattle.stn_model.specs.Plant.{state_at, unit_at, task_at, utility_at, run_at
 use Rattle.time_grid.specs.Slots.{slots}
 use Rattle.row_set.specs.PlantProgram.{plant_rows}
 use Rattle.row_names.specs.declared.name.RowName.{RowName}
-use Rattle.row_names.specs.declared.name.RowName.TheVariants.{Busy, Low, High, Load, Gap}
+use Rattle.row_names.specs.declared.name.RowName.TheVariants.{Busy, Low, High, Load, Gap, Last}
 use Rattle.row_names.specs.RowNames.{row_names, row_named, slot_at}
 
 -- a line that counts items
@@ -42,6 +42,7 @@ row_words plant (Low state time) = codes "low " ++ name_and_number (state_at pla
 row_words plant (High state time) = codes "high " ++ name_and_number (state_at plant state).name time
 row_words plant (Load utility period) = codes "load " ++ name_and_number (utility_at plant utility).name period
 row_words plant (Gap unit first second) = gap_words (unit_at plant unit).name first second
+row_words plant (Last unit slot) = codes "last " ++ name_and_number (unit_at plant unit).name slot
 
 -- the line of a row: its number, and what it is of
 abbrev pub row_line : Plant → ℕ → RowName → List ℕ

@@ -155,6 +155,9 @@ fn push_words(
             first,
             second,
         } => push_gap(alloc, text, unit_name(plant, unit), first, second),
+        RowName::Last { unit, slot } => {
+            push_named(alloc, text, "last ", unit_name(plant, unit), slot)
+        }
     }
 }
 

@@ -125,6 +125,7 @@ larger-whole whole part larger ranges sums but same added =
       base_bounded = larger.base_bounded;
       one_tag = larger.one_tag ∙ long;
       costs_bounded = larger.costs_bounded;
+      openings_bounded = larger.openings_bounded;
     } in (
       wide,
       (
@@ -297,6 +298,7 @@ head-whole plant whole part ranges sums units derivations larger but same all is
       base_bounded = set.0.base_bounded;
       one_tag = set.0.one_tag ∙ sym root_all;
       costs_bounded = set.0.costs_bounded;
+      openings_bounded = set.0.openings_bounded;
     } in (
       record { program = wide; choices = choices_before units between.0 },
       record {

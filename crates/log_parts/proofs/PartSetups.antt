@@ -89,6 +89,7 @@ whole-next plant unit whole part next same is =
       base_bounded = next.base_bounded;
       one_tag = next.one_tag ∙ long;
       costs_bounded = next.costs_bounded;
+      openings_bounded = next.openings_bounded;
     } in (
       wide,
       (

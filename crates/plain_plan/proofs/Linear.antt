@@ -10,7 +10,7 @@ use Rattle.stn_model.specs.Stock.{given, taken, inflow, outflow, stock}
 use Rattle.stn_model.specs.Load.{drawn, load}
 use Rattle.stn_model.specs.Sums.{total, total_below}
 use Rattle.stn_model.specs.Profit.{end_value, holding_cost, utility_cost, start_cost, change_costs, profit}
-use Rattle.plain_plan.proofs.SmallProfit.{change_costs-nil, change_costs-one}
+use Rattle.plain_plan.proofs.SmallProfit.{change_costs-nil}
 
 -- equal sums stay equal where each part is multiplied
 pub times-parts : (p x y z w : ℤ) → x +ℤ y ≡ z +ℤ w → p *ℤ x +ℤ p *ℤ y ≡ p *ℤ z +ℤ p *ℤ w
@@ -92,23 +92,21 @@ module _ (plant : Plant) (a : Start) (P : List Start) where
   unfolding start_cost
   start-parts = omega (arith, ints)
 
-  -- the profit with the changeover costs put back, of a list with one more start
-  profit-parts : (profit plant (a ∷ P) +ℤ pos (change_costs plant (a ∷ P))) +ℤ profit plant [] ≡ (profit plant P +ℤ pos (change_costs plant P)) +ℤ profit plant (a ∷ [])
-  unfolding profit
-  profit-parts =
-      let none = change_costs-nil plant in
-      let one = change_costs-one plant a in
-      omega (arith, ints, worth-parts, holding-parts, utility-parts, start-parts, none, one)
+-- the profit of a list of starts with its changeover costs put back
+abbrev pub plain_profit : Plant → List Start → ℤ
+plain_profit plant P = profit plant P +ℤ pos (change_costs plant P)
 
--- what a start alone earns more than doing nothing
+-- what a start alone earns more than doing nothing, without changeover costs
 abbrev pub gain_alone : Plant → Start → ℤ
-gain_alone plant start = profit plant (start ∷ []) -ℤ profit plant []
+gain_alone plant start = plain_profit plant (start ∷ []) -ℤ profit plant []
 
-one_more_gain : (plant : Plant) (a : Start) (P : List Start) → profit plant P +ℤ pos (change_costs plant P) ≡ profit plant [] +ℤ total (gain_alone plant) P →
-    profit plant (a ∷ P) +ℤ pos (change_costs plant (a ∷ P)) ≡ profit plant [] +ℤ (gain_alone plant a +ℤ total (gain_alone plant) P)
-one_more_gain plant a P ih = let parts = profit-parts plant a P in omega (arith, ints, parts, ih)
+profit-parts : (plant : Plant) (a : Start) (P : List Start) → plain_profit plant (a ∷ P) ≡ plain_profit plant P +ℤ gain_alone plant a
+unfolding profit
+profit-parts plant a P =
+    let none = change_costs-nil plant in
+    omega (arith, ints, worth-parts plant a P, holding-parts plant a P, utility-parts plant a P, start-parts plant a P, none)
 
--- the profit with the changeover costs put back: that of doing nothing, and what each start gains
-pub profit-gains : (plant : Plant) (P : List Start) → profit plant P +ℤ pos (change_costs plant P) ≡ profit plant [] +ℤ total (gain_alone plant) P
+-- the profit without changeover costs: that of doing nothing, and what each start gains
+pub profit-gains : (plant : Plant) (P : List Start) → plain_profit plant P ≡ profit plant [] +ℤ total (gain_alone plant) P
 profit-gains plant [] = let none = change_costs-nil plant in omega (arith, ints, none)
-profit-gains plant (a ∷ P) = one_more_gain plant a P (profit-gains plant P)
+profit-gains plant (a ∷ P) = let ih = profit-gains plant P in let parts = profit-parts plant a P in omega (arith, ints, parts, ih)

@@ -3,9 +3,9 @@ use Rattle.std.proofs.Common.{◌≡◌, ℕ, zero, suc, ◌+◌, ◌-◌, ◌*�
 use Rattle.std.specs.List.{All}
 use Rattle.std.proofs.lemmas.Int.{ints, unsigned_abs-mul}
 use Rattle.std.proofs.lemmas.List.{get_or_past}
-use Rattle.std.proofs.lemmas.List.Elements.{All-head, All-tail, All-nil, All-cons}
+use Rattle.std.proofs.lemmas.List.Elements.{All-head, All-tail, All-nil}
 use Rattle.std.proofs.lemmas.List.Sums.{sum_by-le, sum_by-le-sum_by}
-use Rattle.std.proofs.lemmas.Bool.{cases_lt, le-ltb, eq-eqb}
+use Rattle.std.proofs.lemmas.Bool.{cases_lt}
 use Rattle.stn_model.specs.declared.plant.Plant.{Plant}
 use Rattle.stn_model.specs.declared.plant.Run.{Run}
 use Rattle.stn_model.specs.declared.start.Start.{Start}
@@ -13,8 +13,7 @@ use Rattle.stn_model.specs.Plant.{state_at, utility_at, rate_in, task_at, no_tas
 use Rattle.stn_model.specs.Stock.{brought, carried_off, received, delivered, given, taken, inflow, outflow, stock}
 use Rattle.stn_model.specs.Load.{drawn_in, drawn, load}
 use Rattle.stn_model.specs.Sums.{total, total_below, sum_below}
-use Rattle.stn_model.specs.Profit.{end_value, payments, holding_cost, utility_cost, cost_of, start_cost, changeover, change_costs, profit}
-use Rattle.stn_model.specs.Batches.{is_next}
+use Rattle.stn_model.specs.Profit.{end_value, payments, holding_cost, utility_cost, cost_of, start_cost, change_costs, profit}
 use Rattle.stn_model.specs.Sound.{Sound, SoundTask}
 use Rattle.stn_model.proofs.Small.{inputs_small, outputs_small, run_costs_small, rate_small}
 use Rattle.plain_plan.proofs.Classes.{below-add, below-most, classes_below}
@@ -209,14 +208,10 @@ module _ (plant : Plant) (sound : Sound plant) (plan : List Start) (one : length
       let n : length plant.deliveries * 1000000000 ≤ 900 * 1000000000 = mul-le-mul sound.counts.deliveries (le_refl _) in
       omega (arith, h, n)
 
--- no changeover costs anything where there is one start at most
+-- no changeover costs anything where there is no start
 pub change_costs-nil : (plant : Plant) → change_costs plant [] ≡ 0
 unfolding change_costs
 change_costs-nil plant = refl
-
-pub change_costs-one : (plant : Plant) (start : Start) → change_costs plant (start ∷ []) ≡ 0
-unfolding change_costs changeover is_next
-change_costs-one plant start = rw (le-ltb start.period start.period (omega arith), eq-eqb start.unit start.unit refl) (omega arith)
 
 -- the profit of the empty plan
 pub idle-small : (plant : Plant) → Sound plant → unsigned_abs (profit plant []) ≤ 10000000000000000000000
@@ -232,20 +227,4 @@ idle-small plant sound =
       start-small plant sound [] (omega arith) small,
       payments-small plant sound [] (omega arith) small,
       change_costs-nil plant,
-    )
-
--- the profit of a plan of one start
-pub single-small : (plant : Plant) (start : Start) → Sound plant → SmallStart plant start → unsigned_abs (profit plant (start ∷ [])) ≤ 10000000000000000000000
-unfolding profit
-single-small plant start sound is =
-    let small = All-cons (SmallStart plant) start [] is (All-nil (SmallStart plant)) in
-    omega (
-      arith,
-      ints,
-      worth-small plant sound (start ∷ []) (omega arith) small,
-      holding-small plant sound (start ∷ []) (omega arith) small,
-      utility-small plant sound (start ∷ []) (omega arith) small,
-      start-small plant sound (start ∷ []) (omega arith) small,
-      payments-small plant sound (start ∷ []) (omega arith) small,
-      change_costs-one plant start,
     )

@@ -19,16 +19,16 @@ ghost use Rattle.std.specs.Prelude.{
 };
 ghost use Rattle.stn_model.specs.Plant.{state_at, utility_at};
 ghost use Rattle.stn_model.specs.Fits.{Fits};
-ghost use Rattle.stn_model.specs.Batches.{Apart, Cleaned};
+ghost use Rattle.stn_model.specs.Batches.{Apart, Cleaned, Begun};
 ghost use Rattle.stn_model.specs.Stock.{stock};
 ghost use Rattle.stn_model.specs.Load.{load};
 ghost use Rattle.stn_model.specs.Feasible.{Feasible, StockKept, LoadKept};
 ghost use Rattle.stn_model.specs.Sound.{Sound};
 
 use crate::load::load_in;
-use crate::profit::is_next;
+use crate::profit::{is_first, is_next};
 use crate::stock::stock_at;
-use stn_model::{Plant, Start, end, fits, gap_of};
+use stn_model::{Plant, Start, end, fits, gap_of, ready};
 
 /// Whether the plant can carry out the plan. It takes no memory, and time with the cube of the plan.
 pub fn is_feasible(plant: &Plant, plan: &[Start]) -> bool
@@ -43,6 +43,9 @@ pub fn is_feasible(plant: &Plant, plan: &[Start]) -> bool
         return false;
     }
     if !all_cleaned(plant, plan) {
+        return false;
+    }
+    if !all_begun(plant, plan) {
         return false;
     }
     if !all_stocks_kept(plant, plan) {
@@ -118,6 +121,27 @@ fn is_cleaned(plant: &Plant, plan: &[Start], a: &Start, b: &Start) -> bool
     if is_next(plan, a, b) {
         let cleaning = gap_of(plant, a.unit, a.task, b.task) as u128;
         end(plant, a) as u128 + cleaning <= b.period as u128
+    } else {
+        true
+    }
+}
+
+fn all_begun(plant: &Plant, plan: &[Start]) -> bool
+    ensures { IsTrue result ↔ All (Begun plant.now plan.now) plan.now }
+{
+    for b in plan {
+        if !is_begun(plant, plan, b) {
+            return false;
+        }
+    }
+    true
+}
+
+fn is_begun(plant: &Plant, plan: &[Start], b: &Start) -> bool
+    ensures { IsTrue result ↔ Begun plant.now plan.now b.now }
+{
+    if is_first(plan, b) {
+        ready(plant, b.unit, b.task) <= b.period as u64
     } else {
         true
     }

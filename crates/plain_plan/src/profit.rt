@@ -17,7 +17,7 @@ ghost use Rattle.std.specs.Prelude.{
 ghost use Rattle.std.specs.Prelude.{not};
 ghost use Rattle.std.specs.List.{list_all};
 ghost use Rattle.stn_model.specs.Plant.{state_at, utility_at, rate_in, run_on};
-ghost use Rattle.stn_model.specs.Batches.{is_amid, is_next};
+ghost use Rattle.stn_model.specs.Batches.{is_amid, is_next, is_earlier, is_first};
 ghost use Rattle.stn_model.specs.Stock.{stock};
 ghost use Rattle.stn_model.specs.Load.{load};
 ghost use Rattle.stn_model.specs.Sums.{total, total_below};
@@ -29,6 +29,7 @@ ghost use Rattle.stn_model.specs.Profit.{
   cost_of,
   start_cost,
   changeover,
+  first_change,
   change_costs,
   profit,
 };
@@ -36,7 +37,7 @@ ghost use Rattle.stn_model.specs.Sound.{Sound};
 
 use crate::load::load_in;
 use crate::stock::stock_at;
-use stn_model::{Plant, Start, all_payments, change_cost, rate_in, run_for};
+use stn_model::{Plant, Start, all_payments, change_cost, first_cost, rate_in, run_for};
 
 /// What the plan earns, in money: end stocks and payments, less the costs of holding, utilities,
 /// starts and changeovers. It takes no memory, and time with the cube of the plan.
@@ -240,6 +241,15 @@ fn cost_of_start(plant: &Plant, start: &Start) -> i128
 fn change_costs(plant: &Plant, plan: &[Start]) -> u128
     requires { length plan.now < 2 ^ 32 }
     ensures value { result ≡ change_costs plant.now plan.now }
+    ensures small { result ≤ 2 ^ 97 }
+{
+    changeovers(plant, plan) + first_changes(plant, plan)
+}
+
+/// What the changeovers between batches cost.
+fn changeovers(plant: &Plant, plan: &[Start]) -> u128
+    requires { length plan.now < 2 ^ 32 }
+    ensures value { result ≡ sum_by (λ a. sum_by (changeover plant.now plan.now a) plan.now) plan.now }
     ensures small { result ≤ 2 ^ 96 }
 {
     let mut sum: u128 = 0;
@@ -271,6 +281,50 @@ fn changeover(plant: &Plant, plan: &[Start], a: &Start, b: &Start) -> u128
     } else {
         0
     }
+}
+
+/// What the changeovers to first batches cost.
+fn first_changes(plant: &Plant, plan: &[Start]) -> u128
+    requires { length plan.now < 2 ^ 32 }
+    ensures value { result ≡ sum_by (first_change plant.now plan.now) plan.now }
+    ensures small { result ≤ 2 ^ 64 }
+{
+    let mut sum: u128 = 0;
+    for b in plan {
+        sum += first_change(plant, plan, b);
+    }
+    sum
+}
+
+#[tactic(auto, unfolding(stn_model::specs::Profit::first_change))]
+fn first_change(plant: &Plant, plan: &[Start], b: &Start) -> u128
+    ensures value { result ≡ first_change plant.now plan.now b.now }
+    ensures small { result ≤ 2 ^ 32 }
+{
+    if is_first(plan, b) {
+        first_cost(plant, b.unit, b.task) as u128
+    } else {
+        0
+    }
+}
+
+/// Whether b comes first on its unit: no start of the plan on it is earlier.
+#[tactic(auto, unfolding(stn_model::specs::Batches::is_first))]
+pub fn is_first(plan: &[Start], b: &Start) -> bool
+    ensures { result ≡ is_first plan.now b.now }
+{
+    for a in plan {
+        if is_earlier(a, b) {
+            return false;
+        }
+    }
+    true
+}
+
+fn is_earlier(a: &Start, b: &Start) -> bool
+    ensures { result ≡ is_earlier a.now b.now }
+{
+    a.unit == b.unit && a.period < b.period
 }
 
 /// Whether b is a next start on the unit of a: it is later, and no start of the plan lies between.

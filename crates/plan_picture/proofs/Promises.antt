@@ -12,6 +12,7 @@ use Rattle.stn_model.proofs.Fitting.{duration_pos}
 use Rattle.plan_picture.specs.Scale.{band_count, band_height, band_top, time_of, periods_in, period_width, x_at}
 use Rattle.plan_picture.specs.Chart.{part_head, grid}
 use Rattle.plan_picture.specs.Bars.{span, first_place, last_place, unit_rows, outage_boxes, cleanings, whole_bar, bar, bars}
+use Rattle.plan_picture.specs.Held.{held_bars}
 use Rattle.plan_picture.specs.Graphs.{touched_count, stocks, loads}
 use Rattle.plan_picture.specs.Picture.{head, band_begin, gantt, units, band_text, bands, whole_page, picture_end, picture_with, picture_text}
 use Rattle.plan_picture.specs.Laws.{stands_at, runs_in, StandsIn, is_shown, bars_of, BarsAreBatches, BarsTellBatches, StepsAreStocks, StepsAreLoads}
@@ -40,13 +41,14 @@ bars_kept : (plant : Plant) (plan : List Start) (band : ℕ) → bars plant plan
 unfolding bar
 bars_kept plant plan band = kept_texts (is_shown plant band) (whole_bar plant band) plan
 
--- the bars of a band stand behind outages and cleaning
+-- the bars of a band stand behind outages, batches before the plan and cleaning
 in_gantt : (plant : Plant) (plan : List Start) (band : ℕ) → StandsIn (bars plant plan band) (gantt plant plan band)
 unfolding gantt
 in_gantt plant plan band =
     let all = bars plant plan band in
-    stands_behind all (outage_boxes plant band) (cleanings plant plan band ++ all)
-    (stands_behind all (cleanings plant plan band) all (stands_here all))
+    let behind = cleanings plant plan band ++ all in
+    stands_behind all (outage_boxes plant band) (held_bars plant band ++ behind)
+    (stands_behind all (held_bars plant band) behind (stands_behind all (cleanings plant plan band) all (stands_here all)))
 
 -- they stand among what a band shows of its units
 in_units : (plant : Plant) (plan : List Start) (states band : ℕ) → StandsIn (bars plant plan band) (units plant plan states band)

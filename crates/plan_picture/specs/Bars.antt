@@ -4,8 +4,8 @@ use Rattle.std.specs.List.{range_with_len}
 use Rattle.stn_model.specs.declared.plant.Plant.{Plant}
 use Rattle.stn_model.specs.declared.plant.Outage.{Outage}
 use Rattle.stn_model.specs.declared.start.Start.{Start}
-use Rattle.stn_model.specs.Plant.{task_at, unit_at, end_of, gap_between}
-use Rattle.stn_model.specs.Batches.{is_next}
+use Rattle.stn_model.specs.Plant.{task_at, unit_at, end_of, gap_between, held_until, ready_at}
+use Rattle.stn_model.specs.Batches.{is_first, is_next}
 use Rattle.plan_picture.specs.declared.marks.Frame.{Frame}
 use Rattle.plan_picture.specs.Marks.{words_at, shortened, title, frame_at, box_at}
 use Rattle.plan_picture.specs.Scale.{periods_in, period_width, letters_in, x_at, unit_top}
@@ -74,9 +74,24 @@ cleaning_between plant plan band a b =
 abbrev pub cleaning_after : Plant → List Start → ℕ → Start → List ℕ
 cleaning_after plant plan band a = flat_map (cleaning_between plant plan band a) plan
 
+-- the cleaning before a batch that comes first on its unit, from the end of the batch that held the unit last on
+unfoldable pub cleaning_before : Plant → List Start → ℕ → Start → List ℕ
+cleaning_before plant plan band b =
+    if is_first plan b
+    then cleaning plant band b.unit (held_until plant b.unit) (ready_at plant b.unit b.task)
+    else []
+
+-- all cleaning before first batches
+abbrev pub first_cleanings : Plant → List Start → ℕ → List ℕ
+first_cleanings plant plan band = flat_map (cleaning_before plant plan band) plan
+
+-- all cleaning between batches
+abbrev pub next_cleanings : Plant → List Start → ℕ → List ℕ
+next_cleanings plant plan band = flat_map (cleaning_after plant plan band) plan
+
 -- all cleaning of a plan
 abbrev pub cleanings : Plant → List Start → ℕ → List ℕ
-cleanings plant plan band = flat_map (cleaning_after plant plan band) plan
+cleanings plant plan band = first_cleanings plant plan band ++ next_cleanings plant plan band
 
 -- a group in the colour of a task: one of eight
 unfoldable pub color_begin : ℕ → List ℕ

@@ -1,4 +1,5 @@
 pub mod Bars
+pub mod Held
 pub mod Chart
 pub mod Graphs
 pub mod Laws

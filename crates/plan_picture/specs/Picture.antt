@@ -10,6 +10,7 @@ use Rattle.plan_picture.specs.Marks.{words_at, box_at}
 use Rattle.plan_picture.specs.Scale.{band_count, chart_width, tasks_in_line, band_height, band_top}
 use Rattle.plan_picture.specs.Chart.{part_head, grid}
 use Rattle.plan_picture.specs.Bars.{unit_rows, outage_boxes, cleanings, color_begin, edge_class, bars}
+use Rattle.plan_picture.specs.Held.{held_bars}
 use Rattle.plan_picture.specs.Graphs.{touched_count, stocks, loads}
 
 -- the first line: the size of the document
@@ -74,9 +75,9 @@ head plant plan = ground_begin ++ (profit_words (profit plant plan) ++ (keys ++ 
 unfoldable pub band_begin : ℕ → List ℕ
 band_begin y = codes "<g transform=\"translate(0 " ++ (decimal y ++ codes ")\">\n")
 
--- what stands in the rows of the units of a band: outages, cleaning, and the bars of the batches
+-- what stands in the rows of the units of a band: outages, what is left of batches before the plan, cleaning, and the bars of the batches
 unfoldable pub gantt : Plant → List Start → ℕ → List ℕ
-gantt plant plan band = outage_boxes plant band ++ (cleanings plant plan band ++ bars plant plan band)
+gantt plant plan band = outage_boxes plant band ++ (held_bars plant band ++ (cleanings plant plan band ++ bars plant plan band))
 
 -- the units of a band: a head, the rows of all units, the lines of all times, and what stands in the rows
 unfoldable pub units : Plant → List Start → ℕ → ℕ → List ℕ

@@ -238,9 +238,9 @@ pub fn push_edge(alloc: Global, text: &mut Vec<u8>, task: u32, frame: Frame) -> 
     push_frame(alloc, text, class.as_str(), frame)
 }
 
-// Appends two lines of words in a frame, as far as they have room.
+/// Appends two lines of words in a frame, as far as they have room.
 #[tactic(auto, unfolding(crate::specs::Bars::frame_words))]
-fn push_frame_words(
+pub fn push_frame_words(
     alloc: Global,
     text: &mut Vec<u8>,
     frame: Frame,

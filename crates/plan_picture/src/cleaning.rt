@@ -1,17 +1,17 @@
-//! The cleaning of units in a band: from the end of a batch on, where another is a next one.
+//! The cleaning of units in a band: from the end of a batch on, where another follows it.
 ghost use Rattle.std.specs.Prelude.{◌≡◌, ◌≤◌, ◌+◌, ◌++◌, ◌^◌, OnOk};
 ghost use Rattle.stn_model.specs.Sound.{Sound};
 ghost use Rattle.plan_picture.specs.Marks.{frame_at};
 ghost use Rattle.plan_picture.specs.Shown.{IsShown};
-ghost use Rattle.plan_picture.specs.Bars.{stripes, cleaning, cleaning_between, cleaning_after, cleanings};
+ghost use Rattle.plan_picture.specs.Bars.{stripes, cleaning, cleaning_between, cleaning_after, cleaning_before, first_cleanings, next_cleanings, cleanings};
 
 use crate::marks::Frame;
 use crate::shown::Shown;
 use crate::spans::{is_seen, span};
 use crate::written::Written;
-use plain_plan::profit::is_next;
+use plain_plan::profit::{is_first, is_next};
 use std::alloc::Global;
-use stn_model::{Plant, Start, end, gap_of};
+use stn_model::{Plant, Start, end, gap_of, held_until, ready};
 
 /// Appends the cleaning that the band shows.
 pub fn push_cleanings(alloc: Global, text: &mut Vec<u8>, shown: &Shown, band: u32) -> Written
@@ -19,6 +19,53 @@ pub fn push_cleanings(alloc: Global, text: &mut Vec<u8>, shown: &Shown, band: u3
     requires there { band ≤ 7 }
     ensures { OnOk result (text.new.items
         ≡ text.old.items ++ cleanings shown.now.plant.now shown.now.plan.now band) }
+{
+    push_first_cleanings(alloc, text, shown, band)?;
+    push_next_cleanings(alloc, text, shown, band)
+}
+
+// Appends the cleaning before first batches.
+fn push_first_cleanings(alloc: Global, text: &mut Vec<u8>, shown: &Shown, band: u32) -> Written
+    requires shown { IsShown shown.now }
+    requires there { band ≤ 7 }
+    ensures { OnOk result (text.new.items
+        ≡ text.old.items ++ first_cleanings shown.now.plant.now shown.now.plan.now band) }
+{
+    let plan = shown.plan;
+    for start in plan {
+        push_cleaning_before(alloc, text, shown, band, start)?;
+    }
+    Ok(())
+}
+
+#[tactic(auto, unfolding(crate::specs::Bars::cleaning_before))]
+fn push_cleaning_before(
+    alloc: Global,
+    text: &mut Vec<u8>,
+    shown: &Shown,
+    band: u32,
+    b: &Start,
+) -> Written
+    requires shown { IsShown shown.now }
+    requires there { band ≤ 7 }
+    ensures { OnOk result (text.new.items
+        ≡ text.old.items ++ cleaning_before shown.now.plant.now shown.now.plan.now band b.now) }
+{
+    if is_first(shown.plan, b) {
+        let from = held_until(shown.plant, b.unit);
+        let to = ready(shown.plant, b.unit, b.task) as u128;
+        push_cleaning(alloc, text, shown.plant, band, b.unit, from, to)
+    } else {
+        Ok(())
+    }
+}
+
+// Appends the cleaning between batches.
+fn push_next_cleanings(alloc: Global, text: &mut Vec<u8>, shown: &Shown, band: u32) -> Written
+    requires shown { IsShown shown.now }
+    requires there { band ≤ 7 }
+    ensures { OnOk result (text.new.items
+        ≡ text.old.items ++ next_cleanings shown.now.plant.now shown.now.plan.now band) }
 {
     let plan = shown.plan;
     for start in plan {

@@ -10,6 +10,7 @@ mod bars;
 mod cleaning;
 mod flags;
 mod graphs;
+mod held;
 mod legend;
 mod levels;
 mod marks;

@@ -8,6 +8,7 @@ ghost use Rattle.plan_picture.specs.Laws.{BarsAreBatches, BarsTellBatches, Steps
 use crate::bars::{push_bars, push_outages, push_unit_rows};
 use crate::cleaning::push_cleanings;
 use crate::graphs::{push_loads, push_stocks};
+use crate::held::push_held_bars;
 use crate::legend::{push_head, push_page};
 use crate::levels::touched_count;
 use crate::rows::{push_grid, push_part_head};
@@ -135,6 +136,7 @@ fn push_gantt(alloc: Global, text: &mut Vec<u8>, shown: &Shown, band: u32) -> Wr
         ≡ text.old.items ++ gantt shown.now.plant.now shown.now.plan.now band) }
 {
     push_outages(alloc, text, shown.plant, band)?;
+    push_held_bars(alloc, text, shown.plant, band)?;
     push_cleanings(alloc, text, shown, band)?;
     push_bars(alloc, text, shown, band)
 }

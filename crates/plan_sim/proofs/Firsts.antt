@@ -1,5 +1,5 @@
 -- What is found first is the first violation; and a plan is feasible where it breaks nothing.
-use Rattle.std.proofs.Common.{◌≡◌, ℕ, ◌+◌, ◌<◌, ◌≤◌, List, [], ◌∷◌, length, arith, refl, sym, subst, inl, inr, Option, Some, None, get_or, ◌∙◌}
+use Rattle.std.proofs.Common.{◌≡◌, ℕ, suc, ◌+◌, ◌<◌, ◌≤◌, List, [], ◌∷◌, length, arith, refl, sym, subst, inl, inr, Option, Some, None, get_or, ◌∙◌}
 use Rattle.std.specs.Prelude.{ℤ, pos, ◌≤ℤ◌, ◌<ℤ◌, ◌⊎◌, ◌↔◌, All, AllPairs, IsTrue, IsSomeAnd, IfSome, slice_get, slice_index}
 use Rattle.std.proofs.lemmas.Int.{ints, by_lt_z}
 use Rattle.std.proofs.lemmas.Bool.{cases_lt, cases_Bool, false≢true}
@@ -7,10 +7,10 @@ use Rattle.std.proofs.lemmas.List.{get_or_default}
 use Rattle.stn_model.specs.declared.plant.Plant.{Plant}
 use Rattle.stn_model.specs.declared.start.Start.{Start}
 use Rattle.stn_model.specs.declared.violation.Violation.{Violation}
-use Rattle.stn_model.specs.declared.violation.Violation.TheVariants.{Unfit, Busy, Gap, StockLow, StockHigh, Load}
-use Rattle.stn_model.specs.Plant.{state_at, utility_at, end_of, gap_between}
+use Rattle.stn_model.specs.declared.violation.Violation.TheVariants.{Unfit, Busy, Early, Gap, StockLow, StockHigh, Load}
+use Rattle.stn_model.specs.Plant.{state_at, utility_at, end_of, gap_between, ready_at}
 use Rattle.stn_model.specs.Fits.{Fits, is_fit}
-use Rattle.stn_model.specs.Batches.{Apart, Cleaned}
+use Rattle.stn_model.specs.Batches.{Apart, Begun, Cleaned}
 use Rattle.stn_model.specs.Stock.{stock}
 use Rattle.stn_model.specs.Load.{load}
 use Rattle.stn_model.specs.Sound.{Sound}
@@ -19,8 +19,8 @@ use Rattle.plan_sim.specs.declared.verdict.Verdict.TheVariants.{Broken, Feasible
 use Rattle.plan_sim.specs.Verdicts.{IsPlanVerdict, IsOfLevel, says_feasible}
 use Rattle.stn_model.proofs.Fitting.{ends_later}
 use Rattle.stn_model.specs.Feasible.{Feasible, StockKept, LoadKept}
-use Rattle.stn_model.specs.Violations.{Breaks, BreaksFirst, Before, order_of, start_at, no_start, TooSoon}
-use Rattle.plan_sim.specs.Units.{FitUntil, IsFirstUnfit, ApartThroughout, IsFirstBusy, CleanedUntil, IsFirstGap, NoTwins, UnitsKept}
+use Rattle.stn_model.specs.Violations.{Breaks, BreaksFirst, Before, order_of, start_at, no_start, TooEarly, TooSoon}
+use Rattle.plan_sim.specs.Units.{FitUntil, IsFirstUnfit, ApartThroughout, IsFirstBusy, BegunUntil, IsFirstEarly, CleanedUntil, IsFirstGap, NoTwins, UnitsKept}
 use Rattle.plan_sim.specs.Faults.{level, LevelKept, UseKept, KeptBefore, IsFirstLevel, IsFirstUse}
 use Rattle.plan_sim.specs.Tables.{IsStockTable, IsLoadTable}
 use Rattle.plan_sim.proofs.Following.{not_below}
@@ -37,7 +37,8 @@ unfit_not_before : (plant : Plant) (plan : List Start) (place : ℕ) → IsFirst
 unfit_not_before plant plan place first (Unfit p) breaks before =
     elim (others 0 (p ∷ []) (place ∷ []) before) [ inl l ↦ breaks.1 (first.earlier p l) | inr e ↦ e.1 ]
 unfit_not_before plant plan place first (Busy f s) breaks before = absurd (omega (arith, lead 1 0 (f ∷ s ∷ []) (place ∷ []) before))
-unfit_not_before plant plan place first (Gap f s) breaks before = absurd (omega (arith, lead 2 0 (f ∷ s ∷ []) (place ∷ []) before))
+unfit_not_before plant plan place first (Early p) breaks before = absurd (omega (arith, lead 2 0 (0 ∷ p ∷ []) (place ∷ []) before))
+unfit_not_before plant plan place first (Gap f s) breaks before = absurd (omega (arith, lead 2 0 (suc f ∷ s ∷ []) (place ∷ []) before))
 unfit_not_before plant plan place first (StockLow s t) breaks before = absurd (omega (arith, lead 3 0 (t ∷ 0 ∷ s ∷ []) (place ∷ []) before))
 unfit_not_before plant plan place first (StockHigh s t) breaks before = absurd (omega (arith, lead 3 0 (t ∷ 0 ∷ s ∷ []) (place ∷ []) before))
 unfit_not_before plant plan place first (Load u p) breaks before = absurd (omega (arith, lead 3 0 (p ∷ 1 ∷ u ∷ []) (place ∷ []) before))
@@ -55,7 +56,8 @@ busy_not_before plant plan f s fit first (Busy f2 s2) breaks before =
         | inr r ↦ r.1
       ]
     ]
-busy_not_before plant plan f s fit first (Gap f2 s2) breaks before = absurd (omega (arith, lead 2 1 (f2 ∷ s2 ∷ []) (f ∷ s ∷ []) before))
+busy_not_before plant plan f s fit first (Early p) breaks before = absurd (omega (arith, lead 2 1 (0 ∷ p ∷ []) (f ∷ s ∷ []) before))
+busy_not_before plant plan f s fit first (Gap f2 s2) breaks before = absurd (omega (arith, lead 2 1 (suc f2 ∷ s2 ∷ []) (f ∷ s ∷ []) before))
 busy_not_before plant plan f s fit first (StockLow s2 t) breaks before = absurd (omega (arith, lead 3 1 (t ∷ 0 ∷ s2 ∷ []) (f ∷ s ∷ []) before))
 busy_not_before plant plan f s fit first (StockHigh s2 t) breaks before = absurd (omega (arith, lead 3 1 (t ∷ 0 ∷ s2 ∷ []) (f ∷ s ∷ []) before))
 busy_not_before plant plan f s fit first (Load u p) breaks before = absurd (omega (arith, lead 3 1 (p ∷ 1 ∷ u ∷ []) (f ∷ s ∷ []) before))
@@ -63,23 +65,43 @@ busy_not_before plant plan f s fit first (Load u p) breaks before = absurd (omeg
 pub busy_first : (plant : Plant) (plan : List Start) (f s : ℕ) → FitUntil plant plan (length plan) → IsFirstBusy plant plan f s → BreaksFirst plant plan (Busy f s)
 busy_first plant plan f s fit first = record { breaks = (first.meeting.after, first.meeting.there, first.meeting.meets); first = busy_not_before plant plan f s fit first }
 
-gap_not_before : (plant : Plant) (plan : List Start) (f s : ℕ) → FitUntil plant plan (length plan) → ApartThroughout plant plan → IsFirstGap plant plan f s → (other : Violation) → Breaks plant plan other → ¬ Before (order_of other) (order_of (Gap f s))
-gap_not_before plant plan f s fit apart first (Unfit p) breaks before = breaks.1 (fit p breaks.0)
-gap_not_before plant plan f s fit apart first (Busy f2 s2) breaks before = breaks.2 (apart f2 (let k : f2 < length plan = omega (arith, breaks.0, breaks.1) in k) s2 breaks.0 breaks.1)
-gap_not_before plant plan f s fit apart first (Gap f2 s2) breaks before =
-    elim (others 2 (f2 ∷ s2 ∷ []) (f ∷ s ∷ []) before) [
-      | inl l ↦ first.earlier f2 l s2 breaks.1 breaks.2
-      | inr e ↦ elim e.1 [
-        | inl l ↦ (let same : s2 ≡ s = first.follows.only s2 breaks.1 (subst (λ (k : ℕ). TooSoon plant plan (start_at plan k) (start_at plan s2)) e.0 breaks.2) in omega arith)
-        | inr r ↦ r.1
-      ]
-    ]
-gap_not_before plant plan f s fit apart first (StockLow s2 t) breaks before = absurd (omega (arith, lead 3 2 (t ∷ 0 ∷ s2 ∷ []) (f ∷ s ∷ []) before))
-gap_not_before plant plan f s fit apart first (StockHigh s2 t) breaks before = absurd (omega (arith, lead 3 2 (t ∷ 0 ∷ s2 ∷ []) (f ∷ s ∷ []) before))
-gap_not_before plant plan f s fit apart first (Load u p) breaks before = absurd (omega (arith, lead 3 2 (p ∷ 1 ∷ u ∷ []) (f ∷ s ∷ []) before))
+-- no two batches meet
+module _ (plant : Plant) (plan : List Start) (fit : FitUntil plant plan (length plan)) (apart : ApartThroughout plant plan) where
+  no_busy : (f s : ℕ) → ¬ Breaks plant plan (Busy f s)
+  no_busy f s breaks = breaks.2 (apart f (let k : f < length plan = omega (arith, breaks.0, breaks.1) in k) s breaks.0 breaks.1)
 
-pub gap_first : (plant : Plant) (plan : List Start) (f s : ℕ) → FitUntil plant plan (length plan) → ApartThroughout plant plan → IsFirstGap plant plan f s → BreaksFirst plant plan (Gap f s)
-gap_first plant plan f s fit apart first = record { breaks = (first.there, first.follows.there, first.follows.soon); first = gap_not_before plant plan f s fit apart first }
+  early_not_before : (place : ℕ) → IsFirstEarly plant plan place → (other : Violation) → Breaks plant plan other → ¬ Before (order_of other) (order_of (Early place))
+  early_not_before place first (Unfit p) breaks before = breaks.1 (fit p breaks.0)
+  early_not_before place first (Busy f s) breaks before = no_busy f s breaks
+  early_not_before place first (Early p) breaks before =
+      elim (others 0 (p ∷ []) (place ∷ []) (others 2 (0 ∷ p ∷ []) (0 ∷ place ∷ []) before)) [ inl l ↦ first.earlier p l breaks.1 | inr e ↦ e.1 ]
+  early_not_before place first (Gap f s) breaks before = absurd (omega (arith, lead (suc f) 0 (s ∷ []) (place ∷ []) (others 2 (suc f ∷ s ∷ []) (0 ∷ place ∷ []) before)))
+  early_not_before place first (StockLow s t) breaks before = absurd (omega (arith, lead 3 2 (t ∷ 0 ∷ s ∷ []) (0 ∷ place ∷ []) before))
+  early_not_before place first (StockHigh s t) breaks before = absurd (omega (arith, lead 3 2 (t ∷ 0 ∷ s ∷ []) (0 ∷ place ∷ []) before))
+  early_not_before place first (Load u p) breaks before = absurd (omega (arith, lead 3 2 (p ∷ 1 ∷ u ∷ []) (0 ∷ place ∷ []) before))
+
+  pub early_first : (place : ℕ) → IsFirstEarly plant plan place → BreaksFirst plant plan (Early place)
+  early_first place first = record { breaks = (first.there, first.early); first = early_not_before place first }
+
+  gap_not_before : (f s : ℕ) → BegunUntil plant plan (length plan) → IsFirstGap plant plan f s → (other : Violation) → Breaks plant plan other → ¬ Before (order_of other) (order_of (Gap f s))
+  gap_not_before f s begun first (Unfit p) breaks before = breaks.1 (fit p breaks.0)
+  gap_not_before f s begun first (Busy f2 s2) breaks before = no_busy f2 s2 breaks
+  gap_not_before f s begun first (Early p) breaks before = begun p breaks.0 breaks.1
+  gap_not_before f s begun first (Gap f2 s2) breaks before =
+      elim (others 2 (suc f2 ∷ s2 ∷ []) (suc f ∷ s ∷ []) before) [
+        | inl l ↦ first.earlier f2 (let k : f2 < f = omega (arith, l) in k) s2 breaks.1 breaks.2
+        | inr e ↦ elim e.1 [
+          | inl l ↦ (let place : f2 ≡ f = omega (arith, e.0) in
+              let same : s2 ≡ s = first.follows.only s2 breaks.1 (subst (λ (k : ℕ). TooSoon plant plan (start_at plan k) (start_at plan s2)) place breaks.2) in omega arith)
+          | inr r ↦ r.1
+        ]
+      ]
+  gap_not_before f s begun first (StockLow s2 t) breaks before = absurd (omega (arith, lead 3 2 (t ∷ 0 ∷ s2 ∷ []) (suc f ∷ s ∷ []) before))
+  gap_not_before f s begun first (StockHigh s2 t) breaks before = absurd (omega (arith, lead 3 2 (t ∷ 0 ∷ s2 ∷ []) (suc f ∷ s ∷ []) before))
+  gap_not_before f s begun first (Load u p) breaks before = absurd (omega (arith, lead 3 2 (p ∷ 1 ∷ u ∷ []) (suc f ∷ s ∷ []) before))
+
+  pub gap_first : (f s : ℕ) → BegunUntil plant plan (length plan) → IsFirstGap plant plan f s → BreaksFirst plant plan (Gap f s)
+  gap_first f s begun first = record { breaks = (first.there, first.follows.there, first.follows.soon); first = gap_not_before f s begun first }
 
 -- ---- stocks and loads
 
@@ -106,6 +128,9 @@ no_unit_breaks_unfit plant plan p kept breaks = breaks.1 (kept.fit p breaks.0)
 no_unit_breaks_busy : (plant : Plant) (plan : List Start) (f s : ℕ) → UnitsKept plant plan → ¬ Breaks plant plan (Busy f s)
 no_unit_breaks_busy plant plan f s kept breaks = breaks.2 (kept.apart f (let k : f < length plan = omega (arith, breaks.0, breaks.1) in k) s breaks.0 breaks.1)
 
+no_unit_breaks_early : (plant : Plant) (plan : List Start) (p : ℕ) → UnitsKept plant plan → ¬ Breaks plant plan (Early p)
+no_unit_breaks_early plant plan p kept breaks = kept.begun p breaks.0 breaks.1
+
 no_unit_breaks_gap : (plant : Plant) (plan : List Start) (f s : ℕ) → UnitsKept plant plan → ¬ Breaks plant plan (Gap f s)
 no_unit_breaks_gap plant plan f s kept breaks = kept.cleaned f breaks.0 s breaks.1 breaks.2
 
@@ -131,6 +156,7 @@ earlier_load plant plan s t u p kept there within before =
 pub stock_not_before : (plant : Plant) (plan : List Start) (s t : ℕ) → UnitsKept plant plan → PlanKeptBefore plant plan t → ((k : ℕ) → k < s → StockKept plant plan k t) → (other : Violation) → Breaks plant plan other → ¬ Before (order_of other) (3 ∷ t ∷ 0 ∷ s ∷ [])
 stock_not_before plant plan s t units kept earlier (Unfit p) breaks before = no_unit_breaks_unfit plant plan p units breaks
 stock_not_before plant plan s t units kept earlier (Busy f g) breaks before = no_unit_breaks_busy plant plan f g units breaks
+stock_not_before plant plan s t units kept earlier (Early p) breaks before = no_unit_breaks_early plant plan p units breaks
 stock_not_before plant plan s t units kept earlier (Gap f g) breaks before = no_unit_breaks_gap plant plan f g units breaks
 stock_not_before plant plan s t units kept earlier (StockLow s2 t2) breaks before = low_breaks plant plan s2 t2 breaks.2 (earlier_stock plant plan s t s2 t2 kept earlier breaks.0 before)
 stock_not_before plant plan s t units kept earlier (StockHigh s2 t2) breaks before = high_breaks plant plan s2 t2 breaks.2 (earlier_stock plant plan s t s2 t2 kept earlier breaks.0 before)
@@ -156,6 +182,7 @@ load_before_load plant plan u p u2 p2 kept earlier there within before =
 pub load_not_before : (plant : Plant) (plan : List Start) (u p : ℕ) → UnitsKept plant plan → PlanKeptBefore plant plan p → ((k : ℕ) → k < length plant.states → StockKept plant plan k p) → ((k : ℕ) → k < u → LoadKept plant plan k p) → (other : Violation) → Breaks plant plan other → ¬ Before (order_of other) (3 ∷ p ∷ 1 ∷ u ∷ [])
 load_not_before plant plan u p units kept levels earlier (Unfit q) breaks before = no_unit_breaks_unfit plant plan q units breaks
 load_not_before plant plan u p units kept levels earlier (Busy f g) breaks before = no_unit_breaks_busy plant plan f g units breaks
+load_not_before plant plan u p units kept levels earlier (Early q) breaks before = no_unit_breaks_early plant plan q units breaks
 load_not_before plant plan u p units kept levels earlier (Gap f g) breaks before = no_unit_breaks_gap plant plan f g units breaks
 load_not_before plant plan u p units kept levels earlier (StockLow s2 t2) breaks before = low_breaks plant plan s2 t2 breaks.2 (stock_before_load plant plan u p s2 t2 kept levels breaks.0 before)
 load_not_before plant plan u p units kept levels earlier (StockHigh s2 t2) breaks before = high_breaks plant plan s2 t2 breaks.2 (stock_before_load plant plan u p s2 t2 kept levels breaks.0 before)
@@ -228,6 +255,15 @@ apart_all plant plan apart i j d h l =
     let k : i < length plan = omega arith in
     subst (λ (a : Start). Apart plant a (get_or plan j d)) (get_or_default plan i no_start d k) (subst (λ (b : Start). Apart plant (start_at plan i) b) (get_or_default plan j no_start d l) (apart i k j h l))
 
+begun_one : (plant : Plant) (plan : List Start) (b : Start) → ¬ TooEarly plant plan b → Begun plant plan b
+begun_one plant plan b h first = elim (cases_lt b.period (ready_at plant b.unit b.task)) [
+  | inl l ↦ absurd (h (record { first = first; early = l }))
+  | inr g ↦ g
+]
+
+pub begun_all : (plant : Plant) (plan : List Start) → BegunUntil plant plan (length plan) → All (Begun plant plan) plan
+begun_all plant plan begun = all_from_places (Begun plant plan) plan (λ k h. begun_one plant plan (start_at plan k) (begun k h))
+
 cleaned_pair : (plant : Plant) (plan : List Start) (a b : Start) → ¬ TooSoon plant plan a b → Cleaned plant plan a b
 cleaned_pair plant plan a b h next = elim (cases_lt b.period (end_of plant a + gap_between plant a.unit a.task b.task)) [
   | inl l ↦ absurd (h (record { next = next; soon = l }))
@@ -250,6 +286,7 @@ feasible_from plant plan units kept = record {
   fits = fit_all plant plan units.fit;
   apart = apart_all plant plan units.apart;
   cleaned = cleaned_all plant plan units.cleaned;
+  begun = begun_all plant plan units.begun;
   stocks = λ s t there within. kept.stocks t (omega arith) s there;
   loads = λ u p there within. kept.loads p (omega arith) within u there;
 }
@@ -260,6 +297,7 @@ feasible_from plant plan units kept = record {
 pub feasible_breaks_nothing : (plant : Plant) (plan : List Start) → Feasible plant plan → (v : Violation) → ¬ Breaks plant plan v
 feasible_breaks_nothing plant plan f (Unfit p) breaks = breaks.1 (f.fits p no_start breaks.0)
 feasible_breaks_nothing plant plan f (Busy i j) breaks = breaks.2 (f.apart i j no_start breaks.0 breaks.1)
+feasible_breaks_nothing plant plan f (Early p) breaks = (let k = f.begun p no_start breaks.0 breaks.1.first in let b = breaks.1.early in omega (arith, k, b))
 feasible_breaks_nothing plant plan f (Gap i j) breaks = (let k = f.cleaned i no_start breaks.0 j no_start breaks.1 breaks.2.next in let b = breaks.2.soon in omega (arith, k, b))
 feasible_breaks_nothing plant plan f (StockLow s t) breaks = low_breaks plant plan s t breaks.2 (f.stocks s t breaks.0 breaks.1)
 feasible_breaks_nothing plant plan f (StockHigh s t) breaks = high_breaks plant plan s t breaks.2 (f.stocks s t breaks.0 breaks.1)
@@ -287,6 +325,7 @@ nothing_broken_is_feasible plant plan none = record {
   fits = all_from_places (Fits plant) plan (λ k h. elim (fits_decided plant (start_at plan k)) [ inl f ↦ f | inr fails ↦ absurd (none (Unfit k) (h, fails)) ]);
   apart = apart_all plant plan (λ i k j h l. apart_decided plant (start_at plan i) (start_at plan j) (λ fails. none (Busy i j) (h, l, fails)));
   cleaned = cleaned_all plant plan (λ f h s l soon. none (Gap f s) (h, l, soon));
+  begun = begun_all plant plan (λ p h early. none (Early p) (h, early));
   stocks = λ s t there within. record {
     low = elim (by_order (pos 0) (stock plant plan s t)) [ inl l ↦ l | inr g ↦ absurd (none (StockLow s t) (there, within, g)) ];
     high = high_decided (stock plant plan s t) (slice_get (state_at plant s).limits t) (λ above. none (StockHigh s t) (there, within, above));

@@ -1,5 +1,5 @@
 -- What is added to tables of stocks and loads, also outside them.
-use Rattle.std.proofs.Common.{◌≡◌, ℕ, ◌+◌, ◌-◌, ◌*◌, ◌^◌, ◌<◌, ◌≤◌, List, length, get_or, take, drop, sum, sum_by, arith, refl, Bool, true, false, cond, eqb, leb, ltb, ap, sym, ◌∙◌, inl, inr, ◌&&◌, min}
+use Rattle.std.proofs.Common.{◌≡◌, ℕ, ◌-◌, ◌<◌, ◌≤◌, length, sum_by, arith, refl, Bool, true, false, cond, eqb, leb, ltb, ap, sym, ◌∙◌, inl, inr, ◌&&◌, min}
 use Rattle.std.proofs.lemmas.Bool.{cases_lt, lt-leb, lt-ltb, le-ltb, and_right, and_left}
 use Rattle.stn_model.specs.declared.plant.Plant.{Plant}
 use Rattle.stn_model.specs.declared.plant.Task.{Task}

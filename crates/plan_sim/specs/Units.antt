@@ -4,7 +4,7 @@ use Rattle.stn_model.specs.declared.plant.Plant.{Plant}
 use Rattle.stn_model.specs.declared.start.Start.{Start}
 use Rattle.stn_model.specs.Fits.{Fits}
 use Rattle.stn_model.specs.Batches.{Apart}
-use Rattle.stn_model.specs.Violations.{start_at, TooSoon}
+use Rattle.stn_model.specs.Violations.{start_at, TooEarly, TooSoon}
 
 -- each of the first n starts fits
 abbrev pub FitUntil : Plant → List Start → ℕ → Type 0
@@ -54,6 +54,16 @@ pub record IsFirstBusy (plant : Plant) (plan : List Start) (first second : ℕ) 
   pub meeting : IsFirstMeeting plant plan first second
   pub earlier : (place : ℕ) → place < first → ApartUntil plant plan place (length plan)
 
+-- none of the first n starts is too early after the batch that held its unit last
+abbrev pub BegunUntil : Plant → List Start → ℕ → Type 0
+BegunUntil plant plan n = (place : ℕ) → place < n → ¬ TooEarly plant plan (start_at plan place)
+
+-- the start at this place is the first that is too early after the batch that held its unit last
+pub record IsFirstEarly (plant : Plant) (plan : List Start) (place : ℕ) : Type 0 where
+  pub there : place < length plan
+  pub early : TooEarly plant plan (start_at plan place)
+  pub earlier : BegunUntil plant plan place
+
 -- no start follows a too soon
 abbrev pub NoneTooSoon : Plant → List Start → Start → Type 0
 NoneTooSoon plant plan a = (place : ℕ) → place < length plan → ¬ TooSoon plant plan a (start_at plan place)
@@ -74,8 +84,9 @@ pub record IsFirstGap (plant : Plant) (plan : List Start) (first second : ℕ) :
   pub follows : FollowsTooSoon plant plan (start_at plan first) second
   pub earlier : CleanedUntil plant plan first
 
--- the units are kept: starts fit, batches keep apart, and units are cleaned
+-- the units are kept: starts fit, batches keep apart, first ones are not too early, and units are cleaned
 pub record UnitsKept (plant : Plant) (plan : List Start) : Type 0 where
   pub fit : FitUntil plant plan (length plan)
   pub apart : ApartThroughout plant plan
+  pub begun : BegunUntil plant plan (length plan)
   pub cleaned : CleanedUntil plant plan (length plan)

@@ -6,22 +6,23 @@ ghost use Rattle.stn_model.specs.Violations.{BreaksFirst};
 ghost use Rattle.stn_model.specs.Sound.{Sound};
 ghost use Rattle.plan_sim.specs.Faults.{level, LevelKept};
 ghost use Rattle.plan_sim.specs.Tables.{IsStockTable, IsLoadTable};
-ghost use Rattle.plan_sim.specs.Units.{UnitsKept, NoTwins};
+ghost use Rattle.plan_sim.specs.Units.{ApartThroughout, FitUntil, UnitsKept, NoTwins};
 ghost use Rattle.plan_sim.specs.Verdicts.{IsPlanVerdict, IsOfLevel, says_feasible};
 
 use crate::faults::{Fault, first_fault};
 use crate::loads::loads;
 use crate::profit::profit_of;
 use crate::stocks::stocks;
-use crate::units::{first_busy, first_gap, first_unfit};
+use crate::units::{first_busy, first_early, first_gap, first_unfit};
 use crate::verdict::Verdict;
 use std::alloc::{AllocError, Global};
 use stn_model::{Plant, Start, Violation};
 
 /// Whether the plant can carry out the plan, and what it earns, or what it breaks first: starts that
-/// do not fit, batches of one unit that meet, units that are not cleaned, and then time by time the
-/// stocks and the loads. The only error is want of memory. It takes memory for tables over states and
-/// times and over utilities and periods, whatever the length of the plan, and time with its square.
+/// do not fit, batches of one unit that meet, first batches on their units that are early after those
+/// that held them last, units that are not cleaned, and then time by time the stocks and the loads.
+/// The only error is want of memory. It takes memory for tables over states and times and over
+/// utilities and periods, whatever the length of the plan, and time with its square.
 pub fn simulate(alloc: Global, plant: &Plant, plan: &[Start]) -> Result<Verdict, AllocError>
     requires sound { Sound plant.now }
     requires few { length plan.now < 2 ^ 32 }
@@ -41,6 +42,19 @@ fn broken_unit(plant: &Plant, plan: &[Start]) -> Option<Violation>
     requires few { length plan.now < 2 ^ 32 }
     ensures { MatchOption result (UnitsKept plant.now plan.now) (BreaksFirst plant.now plan.now) }
 {
+    match broken_start(plant, plan) {
+        Some(violation) => Some(violation),
+        None => broken_wait(plant, plan),
+    }
+}
+
+/// The first start that does not fit, or else the first batches that meet.
+fn broken_start(plant: &Plant, plan: &[Start]) -> Option<Violation>
+    requires few { length plan.now < 2 ^ 32 }
+    ensures { MatchOption result
+        (FitUntil plant.now plan.now (length plan.now) × ApartThroughout plant.now plan.now)
+        (BreaksFirst plant.now plan.now) }
+{
     match first_unfit(plant, plan) {
         Some(place) => {
             return Some(Violation::Unfit {
@@ -50,10 +64,27 @@ fn broken_unit(plant: &Plant, plan: &[Start]) -> Option<Violation>
         None => {}
     }
     match first_busy(plant, plan) {
-        Some(pair) => {
-            return Some(Violation::Busy {
-                first: pair.first as u32,
-                second: pair.second as u32,
+        Some(pair) => Some(Violation::Busy {
+            first: pair.first as u32,
+            second: pair.second as u32,
+        }),
+        None => None,
+    }
+}
+
+/// The first batch that its unit is not ready for: one that comes first on it, after the batch that
+/// held it last, or else a next one after the batch before.
+fn broken_wait(plant: &Plant, plan: &[Start]) -> Option<Violation>
+    requires sound { Sound plant.now }
+    requires few { length plan.now < 2 ^ 32 }
+    requires fit { FitUntil plant.now plan.now (length plan.now) }
+    requires apart { ApartThroughout plant.now plan.now }
+    ensures { MatchOption result (UnitsKept plant.now plan.now) (BreaksFirst plant.now plan.now) }
+{
+    match first_early(plant, plan) {
+        Some(place) => {
+            return Some(Violation::Early {
+                place: place as u32,
             });
         }
         None => {}

@@ -1,14 +1,14 @@
 //! The starts of a plan: whether each fits, and how those on one unit follow each other.
 ghost use Rattle.std.specs.Prelude.{◌≡◌, ◌≤◌, ◌<◌, ◌^◌, ◌↔◌, ◌+◌, sum_by, ℕ, length, take, All, IsTrue, IfSome, MatchOption};
 ghost use Rattle.stn_model.specs.Plant.{end_of, gap_between};
-ghost use Rattle.stn_model.specs.Profit.{changeover, change_costs};
+ghost use Rattle.stn_model.specs.Profit.{changeover, first_change, change_costs};
 ghost use Rattle.stn_model.specs.Fits.{Fits};
 ghost use Rattle.stn_model.specs.Batches.{Apart};
-ghost use Rattle.stn_model.specs.Violations.{start_at};
-ghost use Rattle.plan_sim.specs.Units.{NoTwins, ApartThroughout, IsFirstBusy, NoneTooSoon, FollowsTooSoon, CleanedUntil, IsFirstGap, FitUntil, IsFirstUnfit, ApartUntil, NoneLater, IsFirstMeeting, IsLater, IsNearest};
+ghost use Rattle.stn_model.specs.Violations.{start_at, TooEarly};
+ghost use Rattle.plan_sim.specs.Units.{NoTwins, ApartThroughout, IsFirstBusy, NoneTooSoon, FollowsTooSoon, CleanedUntil, IsFirstGap, FitUntil, IsFirstUnfit, ApartUntil, NoneLater, IsFirstMeeting, IsLater, IsNearest, BegunUntil, IsFirstEarly};
 
-use crate::nearest::next_on_unit;
-use stn_model::{Plant, Start, change_cost, end, fits, gap_of};
+use crate::nearest::{is_first, next_on_unit};
+use stn_model::{Plant, Start, change_cost, end, first_cost, fits, gap_of, ready};
 
 /// Two places of a plan.
 #[derive(Clone, Copy)]
@@ -65,6 +65,25 @@ fn are_apart(plant: &Plant, a: &Start, b: &Start) -> bool
     a.unit != b.unit || end(plant, a) <= b.period as u64 || end(plant, b) <= a.period as u64
 }
 
+/// The first place whose batch is the first on its unit, and begins before the unit is ready for it.
+pub fn first_early(plant: &Plant, plan: &[Start]) -> Option<usize>
+    ensures { MatchOption result (BegunUntil plant.now plan.now (length plan.now))
+        (IsFirstEarly plant.now plan.now) }
+{
+    for (place, start) in plan.iter().enumerate() {
+        if is_too_early(plant, plan, start) {
+            return Some(place);
+        }
+    }
+    None
+}
+
+fn is_too_early(plant: &Plant, plan: &[Start], b: &Start) -> bool
+    ensures { IsTrue result ↔ TooEarly plant.now plan.now b.now }
+{
+    (b.period as u64) < ready(plant, b.unit, b.task) && is_first(plan, b)
+}
+
 /// The first pair of places whose batches follow each other before the unit is cleaned.
 pub fn first_gap(plant: &Plant, plan: &[Start]) -> Option<Pair>
     requires { NoTwins plan.now }
@@ -113,6 +132,17 @@ pub fn change_costs(plant: &Plant, plan: &[Start]) -> u128
     requires twins { NoTwins plan.now }
     requires few { length plan.now < 2 ^ 32 }
     ensures value { result ≡ change_costs plant.now plan.now }
+    ensures small { result ≤ 2 ^ 65 }
+{
+    changeovers(plant, plan) + first_changes(plant, plan)
+}
+
+/// What the changeovers between batches cost.
+fn changeovers(plant: &Plant, plan: &[Start]) -> u128
+    requires twins { NoTwins plan.now }
+    requires few { length plan.now < 2 ^ 32 }
+    ensures value { result
+        ≡ sum_by (λ a. sum_by (changeover plant.now plan.now a) plan.now) plan.now }
     ensures small { result ≤ 2 ^ 64 }
 {
     let mut sum: u128 = 0;
@@ -130,5 +160,31 @@ fn changeover_after(plant: &Plant, plan: &[Start], a: &Start) -> u128
     match next_on_unit(plan, a) {
         Some(place) => change_cost(plant, a.unit, a.task, plan[place].task) as u128,
         None => 0,
+    }
+}
+
+/// What the changeovers to first batches cost.
+fn first_changes(plant: &Plant, plan: &[Start]) -> u128
+    requires { length plan.now < 2 ^ 32 }
+    ensures value { result ≡ sum_by (first_change plant.now plan.now) plan.now }
+    ensures small { result ≤ 2 ^ 64 }
+{
+    let mut sum: u128 = 0;
+    for b in plan {
+        sum += first_change(plant, plan, b);
+    }
+    sum
+}
+
+#[tactic(auto, unfolding(stn_model::specs::Profit::first_change))]
+fn first_change(plant: &Plant, plan: &[Start], b: &Start) -> u128
+    ensures value { result ≡ first_change plant.now plan.now b.now }
+    ensures small { result ≤ 2 ^ 32 }
+{
+    let cost = first_cost(plant, b.unit, b.task);
+    if 0 < cost && is_first(plan, b) {
+        cost as u128
+    } else {
+        0
     }
 }

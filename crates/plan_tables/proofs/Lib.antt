@@ -1,3 +1,4 @@
+mod Charges
 mod Orders
 mod Periods
 mod Ranges

@@ -64,7 +64,7 @@ grouped {X} key xs (suc n) =
     subst (λ (m : ℕ). IsPermutation (filter (λ x. ltb (key x) m) xs) (flat_map (λ k. filter (λ x. eqb (key x) k) xs) (range_with_len 0 m))) e (grouped_more key xs n (grouped key xs n))
 
 -- all items, where each has a number below n
-all_grouped : {X : Type 0} (key : X → ℕ) (xs : List X) (n : ℕ) → All (λ x. ltb (key x) n ≡ true) xs → IsPermutation xs (flat_map (λ k. filter (λ x. eqb (key x) k) xs) (range_with_len 0 n))
+pub all_grouped : {X : Type 0} (key : X → ℕ) (xs : List X) (n : ℕ) → All (λ x. ltb (key x) n ≡ true) xs → IsPermutation xs (flat_map (λ k. filter (λ x. eqb (key x) k) xs) (range_with_len 0 n))
 all_grouped {X} key xs n h =
     subst (λ (ys : List X). IsPermutation ys (flat_map (λ k. filter (λ x. eqb (key x) k) xs) (range_with_len 0 n))) (filter_all (λ x. ltb (key x) n) xs h) (grouped key xs n)
 
@@ -75,7 +75,7 @@ permuted_pieces f g (k ∷ ks) h = IsPermutation-append (f k) (g k) (flat_map f 
 periods_below : (plant : Plant) (plan : List Start) → Sound plant → All (Fits plant) plan → All (λ start. ltb start.period plant.periods ≡ true) plan
 periods_below plant plan sound fits k d h = lt-ltb _ _ (omega (arith, ends_later plant _ sound (fits k d h), (fit_parts plant _ (fits k d h)).ends))
 
-units_below : (plant : Plant) (plan : List Start) → Sound plant → All (Fits plant) plan → All (λ start. ltb start.unit (length plant.units) ≡ true) plan
+pub units_below : (plant : Plant) (plan : List Start) → Sound plant → All (Fits plant) plan → All (λ start. ltb start.unit (length plant.units) ≡ true) plan
 units_below plant plan sound fits k d h = lt-ltb _ _ (placed-Fits plant _ sound (fits k d h)).unit
 
 -- where all starts fit, the batches in order are those of the plan, each once

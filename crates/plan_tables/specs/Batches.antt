@@ -1,12 +1,12 @@
 -- The table of the batches: a line for each start of a plan, by units and periods.
-use Rattle.std.specs.Prelude.{ℕ, ℤ, ◌*◌, ◌==◌, Bool, List, ◌++◌, length, filter, flat_map, sum_by, codes, decimal}
+use Rattle.std.specs.Prelude.{ℕ, ℤ, ◌+◌, ◌*◌, ◌==◌, Bool, List, ◌++◌, length, filter, flat_map, sum_by, codes, decimal}
 use Rattle.std.specs.List.{range_with_len}
 use Rattle.std.specs.List.Sorted.{IsPermutation}
 use Rattle.std.specs.Fmt.{signed_decimal}
 use Rattle.stn_model.specs.declared.plant.Plant.{Plant}
 use Rattle.stn_model.specs.declared.start.Start.{Start}
 use Rattle.stn_model.specs.Plant.{task_at, unit_at, run_on, end_of}
-use Rattle.stn_model.specs.Profit.{cost_of, changeover}
+use Rattle.stn_model.specs.Profit.{cost_of, changeover, first_change}
 
 -- the batch is on this unit
 abbrev pub is_on : ℕ → Start → Bool
@@ -32,9 +32,13 @@ unit_order plant plan unit = by_period plant.periods (on_unit plan unit)
 abbrev pub in_order : Plant → List Start → List Start
 in_order plant plan = flat_map (unit_order plant plan) (range_with_len 0 (length plant.units))
 
--- what is charged for the changeover before a batch: it is the next one of some batch of its unit
+-- what is charged for the changeover to a batch from the batches of its unit that it is a next one of
+abbrev pub charge_between : Plant → List Start → Start → ℕ
+charge_between plant batches b = sum_by (λ a. changeover plant batches a b) batches
+
+-- what is charged for the changeover to a batch: that from the batch before it, or from the one that held its unit last
 unfoldable pub charge : Plant → List Start → Start → ℕ
-charge plant batches b = sum_by (λ a. changeover plant batches a b) batches
+charge plant batches b = charge_between plant batches b + first_change plant batches b
 
 -- the mass of a batch: its quanta times its task's quantum
 abbrev pub mass_of : Plant → Start → ℕ

@@ -5,6 +5,7 @@
 
 mod batches;
 mod changes;
+mod cleanings;
 mod deliveries;
 mod kind;
 mod loads;

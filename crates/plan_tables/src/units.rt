@@ -2,14 +2,11 @@
 ghost use Rattle.std.specs.Prelude.{◌≡◌, ◌≤◌, ◌<◌, ◌^◌, ◌+◌, ◌&&◌, ◌++◌, not, if◌then◌else◌, OnOk, IfOk, length, flat_map, sum_by, codes};
 ghost use Rattle.std.specs.List.{range_with_len, list_any};
 ghost use Rattle.stn_model.specs.Plant.{unit_at};
-ghost use Rattle.stn_model.specs.Sums.{greatest_by};
 ghost use Rattle.stn_model.specs.Sound.{Sound};
 ghost use Rattle.plan_tables.specs.Batches.{on_unit, charge};
 ghost use Rattle.plan_tables.specs.Units.{
   goes_on,
   is_running,
-  cleaned_for,
-  cleaning_after,
   cleanings_of,
   lies_in,
   is_there,
@@ -25,17 +22,11 @@ ghost use Rattle.plan_tables.specs.Units.{
   units_text,
 };
 
-use crate::changes::{charge, is_next, on_unit};
+use crate::changes::{charge, on_unit};
+use crate::cleanings::{Cleaning, cleanings_of};
 use crate::written::Written;
-use std::alloc::{AllocError, Global};
-use stn_model::{Plant, Start, end, gap_of, in_use};
-
-/// The times at which a unit is cleaned: from the one to before the other.
-#[derive(Clone, Copy)]
-pub struct Cleaning {
-    pub from: u64,
-    pub until: u128,
-}
+use std::alloc::Global;
+use stn_model::{Plant, Start, end, held_until, in_use};
 
 /// How many periods a unit does what.
 #[derive(Clone, Copy)]
@@ -101,7 +92,7 @@ fn push_numbers(
     ensures { OnOk result (text.new.items
         ≡ text.old.items ++ unit_numbers plant.now batches.now unit) }
 {
-    let found = cleanings_of(alloc, plant, batches)?;
+    let found = cleanings_of(alloc, plant, batches, unit)?;
     let times = count_periods(plant, batches, found.as_slice(), unit);
     push_times(alloc, text, &times)?;
     push_totals(alloc, text, batches.len(), charges(plant, batches))
@@ -140,59 +131,10 @@ fn charges(plant: &Plant, batches: &[Start]) -> u128
     sum
 }
 
-// The cleanings of a unit, one after each of its batches.
-fn cleanings_of(
-    alloc: Global,
-    plant: &Plant,
-    batches: &[Start],
-) -> Result<Vec<Cleaning>, AllocError>
-    ensures { IfOk result (λ found. found.items ≡ cleanings_of plant.now batches.now) }
-{
-    let mut found = Vec::new(alloc);
-    for a in batches {
-        found.push(cleaning_after(plant, batches, a))?;
-    }
-    Ok(found)
-}
-
-#[tactic(auto, unfolding(crate::specs::Units::cleaning_after))]
-fn cleaning_after(plant: &Plant, batches: &[Start], a: &Start) -> Cleaning
-    ensures { result ≡ cleaning_after plant.now batches.now a.now }
-{
-    Cleaning {
-        from: end(plant, a),
-        until: cleaned_until(plant, batches, a),
-    }
-}
-
-fn cleaned_until(plant: &Plant, batches: &[Start], a: &Start) -> u128
-    ensures { result ≡ greatest_by (cleaned_for plant.now batches.now a.now) batches.now }
-{
-    let mut last = 0;
-    for b in batches {
-        let until = cleaned_for(plant, batches, a, b);
-        if last < until {
-            last = until;
-        }
-    }
-    last
-}
-
-// The time until which the unit is cleaned between a and b, where b is a next batch of a; else 0.
-fn cleaned_for(plant: &Plant, batches: &[Start], a: &Start, b: &Start) -> u128
-    ensures { result ≡ cleaned_for plant.now batches.now a.now b.now }
-{
-    if is_next(batches, a, b) {
-        end(plant, a) as u128 + gap_of(plant, a.unit, a.task, b.task) as u128
-    } else {
-        0
-    }
-}
-
 // How many periods the unit runs, is out of use, is cleaned and is idle.
 fn count_periods(plant: &Plant, batches: &[Start], found: &[Cleaning], unit: u32) -> UnitTimes
-    requires { found.now ≡ cleanings_of plant.now batches.now }
-    ensures running { result.running ≡ running_periods plant.now batches.now plant.now.periods }
+    requires { found.now ≡ cleanings_of plant.now batches.now unit }
+    ensures running { result.running ≡ running_periods plant.now batches.now unit plant.now.periods }
     ensures out { result.out ≡ out_periods plant.now batches.now unit plant.now.periods }
     ensures cleaning { result.cleaning
         ≡ cleaning_periods plant.now batches.now unit plant.now.periods }
@@ -205,7 +147,7 @@ fn count_periods(plant: &Plant, batches: &[Start], found: &[Cleaning], unit: u32
         idle: 0,
     };
     for period in 0..plant.periods {
-        let running = is_running(plant, batches, period);
+        let running = is_running(plant, batches, unit, period);
         let there = in_use(plant, unit, period as u64, period as u64 + 1);
         let cleaned = is_cleaned(found, period);
         times = with_period(times, running, there, cleaned);
@@ -239,9 +181,16 @@ fn with_period(times: UnitTimes, running: bool, there: bool, cleaned: bool) -> U
     times
 }
 
+// Whether the batch that held the unit last goes on in a period, or one of the unit's batches does.
+fn is_running(plant: &Plant, batches: &[Start], unit: u32, period: u32) -> bool
+    ensures { result ≡ is_running plant.now batches.now unit period }
+{
+    (period as u64) < held_until(plant, unit) || one_goes_on(plant, batches, period)
+}
+
 // Whether one of the unit's batches goes on in a period.
-fn is_running(plant: &Plant, batches: &[Start], period: u32) -> bool
-    ensures { result ≡ is_running plant.now batches.now period }
+fn one_goes_on(plant: &Plant, batches: &[Start], period: u32) -> bool
+    ensures { result ≡ list_any (goes_on plant.now period) batches.now }
 {
     for start in batches {
         if goes_on(plant, period, start) {

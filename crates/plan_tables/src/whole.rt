@@ -3,7 +3,7 @@ ghost use Rattle.std.specs.Prelude.{◌≡◌, ◌<◌, ◌^◌, ◌++◌, OnOk,
 ghost use Rattle.stn_model.specs.Fits.{Fits};
 ghost use Rattle.stn_model.specs.Sound.{Sound};
 ghost use Rattle.plan_tables.specs.Batches.{EachOnce};
-ghost use Rattle.plan_tables.specs.Units.{PeriodsOnce};
+ghost use Rattle.plan_tables.specs.Units.{PeriodsOnce, ChargesAreCosts};
 ghost use Rattle.plan_tables.specs.Tables.{table_text};
 
 use crate::batches::push_batches;
@@ -18,7 +18,8 @@ use stn_model::{Plant, Start};
 
 /// A table of the plan: a head line and the lines of what it is about, with masses in mass units and money in the
 /// plant's. It fails only for want of memory. Each batch whose start fits has one line of the batches (`batches`),
-/// and each period of a unit counts once (`periods`).
+/// each period of a unit counts once (`periods`), and the columns of changeovers sum to what the plan's changeovers
+/// cost (`charges`).
 ///
 /// Batches and units take time in proportion to the starts for each unit and, of a unit's own, for each period, and at
 /// most to the cube of a unit's batches, of which a feasible plan has no two in one period; stocks, loads and deliveries
@@ -35,6 +36,7 @@ pub fn table(
     ensures text { IfOk result (λ text. text.items ≡ table_text kind plant.now plan.now) }
     ensures batches { All (Fits plant.now) plan.now → EachOnce plant.now plan.now }
     ensures periods { PeriodsOnce plant.now plan.now }
+    ensures charges { All (Fits plant.now) plan.now → ChargesAreCosts plant.now plan.now }
 {
     let mut text = Vec::new(alloc);
     push_table(alloc, &mut text, kind, plant, plan)?;

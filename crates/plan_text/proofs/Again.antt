@@ -20,7 +20,7 @@ use Rattle.stn_model.specs.declared.plant.Plant.{Plant}
 use Rattle.stn_model.specs.declared.plant.StnUnit.{StnUnit}
 use Rattle.stn_model.specs.declared.plant.Task.{Task}
 use Rattle.stn_model.specs.declared.start.Start.{Start}
-use Rattle.stn_model.specs.Plant.{no_task, unit_names, task_names}
+use Rattle.stn_model.specs.Plant.{no_unit, no_task, unit_names, task_names}
 use Rattle.stn_model.specs.Sound.{Sound, is_name, is_name_byte}
 use Rattle.stn_model.specs.declared.limits.TheConstants.{MAX_NAME}
 use Rattle.plan_text.specs.declared.fault.PlanFault.{PlanFault}
@@ -178,8 +178,7 @@ pub record IsLineOf (plant : Plant) (start : Start) (line : List ℕ) : Type 0 w
 line_of : (plant : Plant) (start : Start) → Sound plant → IsWritable plant start → IsLineOf plant start (join_with_byte 32 (start_words plant start))
 unfolding start_words
 line_of plant start sound writable =
-    let no_unit : StnUnit = record { name = [] } in
-    let unit = name_at (λ (u : StnUnit). u.name) plant.units start.unit no_unit writable.named.unit sound.units sound.names.units in
+    let unit = name_at (λ (u : StnUnit). u.name) plant.units start.unit no_unit writable.named.unit (λ k d within. (sound.units k d within).name) sound.names.units in
     let task = name_at (λ (t : Task). t.name) plant.tasks start.task no_task writable.named.task (λ k d within. (sound.tasks k d within).name) sound.names.tasks in
     let period : start.period < 10 ^ 64 = omega (arith, writable.period) in
     let quanta : start.quanta < 10 ^ 64 = omega (arith, writable.quanta) in

@@ -8,7 +8,7 @@ use Rattle.std.proofs.lemmas.Fmt.{length-decimal-le}
 use Rattle.std.proofs.lemmas.List.{get_or-map}
 use Rattle.stn_model.specs.declared.plant.Plant.{Plant}
 use Rattle.stn_model.specs.declared.start.Start.{Start}
-use Rattle.stn_model.specs.Plant.{no_task, unit_names, task_names}
+use Rattle.stn_model.specs.Plant.{no_unit, no_task, unit_names, task_names}
 use Rattle.stn_model.specs.Sound.{Sound, is_name, is_name_byte}
 use Rattle.plan_text.specs.PlanLines.{start_words, plan_line, plan_lines}
 use Rattle.plan_text.specs.ReadsBack.{IsWritable, ReadsBack, SaysAgain}
@@ -30,7 +30,7 @@ unfolding plan_line start_words
 short-line plant start sound writable =
     let unit = slice_index_or (unit_names plant) start.unit [] in
     let task = slice_index_or (task_names plant) start.task [] in
-    let unit_short : length unit ≤ 32 = short-at (λ x. x.name) plant.units start.unit (record { name = [] }) writable.named.unit sound.units in
+    let unit_short : length unit ≤ 32 = short-at (λ x. x.name) plant.units start.unit no_unit writable.named.unit (λ k d within. (sound.units k d within).name) in
     let task_short : length task ≤ 32 = short-at (λ x. x.name) plant.tasks start.task no_task writable.named.task (λ k d within. (sound.tasks k d within).name) in
     let period = length-decimal-le 9 start.period (omega arith) (omega (arith, writable.period)) (omega (arith, writable.period)) in
     let quanta = length-decimal-le 9 start.quanta (omega arith) (omega (arith, writable.quanta)) (omega (arith, writable.quanta)) in

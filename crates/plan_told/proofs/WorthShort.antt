@@ -11,8 +11,8 @@ use Rattle.row_kit.specs.declared.program.Program.{Program}
 use Rattle.row_kit.specs.declared.row.Change.{Change}
 use Rattle.row_kit.specs.declared.row.Entry.{Entry}
 use Rattle.row_kit.specs.declared.row.Tag.{Tag}
-use Rattle.row_kit.specs.Bounds.{IsBoundedChange}
-use Rattle.row_kit.specs.Change.{started, comes_next, is_listed, listed_cost, pair_cost, costs_after, changeovers}
+use Rattle.row_kit.specs.Bounds.{IsBoundedChange, IsBoundedTag}
+use Rattle.row_kit.specs.Change.{started, comes_first, comes_next, is_listed, listed_cost, pair_cost, costs_after, opening_cost, costs_of, changeovers}
 use Rattle.row_kit.specs.Domain.{domain_at, no_values}
 use Rattle.row_kit.specs.Point.{IsLawful, worth_of}
 use Rattle.row_kit.specs.Row.{counted, entries_sum}
@@ -22,6 +22,7 @@ use Rattle.row_kit.proofs.Values.{part_above}
 use Rattle.dual_bound.proofs.Small.{abs_sum}
 use Rattle.log_lines.specs.Line.{IsShort}
 use Rattle.proof_log.specs.Accepted.{AreBytes}
+use Rattle.sum_slots.proofs.Lanes.{All-started}
 
 -- each value of a lawful point is a byte
 pub lawful_bytes : (program : Program) (point : List ℕ) → IsLawful program point → AreBytes point
@@ -74,14 +75,23 @@ few_started (tag ∷ tags) [] = omega arith
 few_started (tag ∷ tags) (zero ∷ values) = omega (arith, few_started tags values)
 few_started (tag ∷ tags) (suc value ∷ values) = grind (arith, few_started tags values)
 
--- what the changeovers of a point cost
-changeovers_small : (changes : List Change) (tags : List Tag) (point : List ℕ) → length tags ≤ 4096 → All IsBoundedChange changes → changeovers changes tags point ≤ 4096 * 4096000000
-changeovers_small changes tags point few bounded =
+-- to open a lane costs at most 1,000,000
+opening_small : (starts : List Tag) (a : Tag) → IsBoundedTag a → opening_cost starts a ≤ 1000000
+opening_small starts a bounded = by_first (comes_first starts a)
+  where
+    by_first : (first : Bool) → cond first a.opening 0 ≤ 1000000
+    by_first true = bounded
+    by_first false = omega arith
+
+-- what the changeovers of a point cost, with the openings
+changeovers_small : (changes : List Change) (tags : List Tag) (point : List ℕ) → length tags ≤ 4096 → All IsBoundedChange changes → All IsBoundedTag tags → changeovers changes tags point ≤ 4096 * 4097000000
+changeovers_small changes tags point few bounded openings =
     let starts = started tags point in
     let count = few_started tags point in
     let each = λ (a : Tag). sum_by-le (pair_cost changes starts a) 1000000 starts (λ k d within. pair_small changes starts a (get_or starts k d) bounded) in
     let after = λ (a : Tag). bounded_by (costs_after changes starts a) (each a) in
-    omega (arith, sum_by-le (costs_after changes starts) 4096000000 starts (λ k d within. after (get_or starts k d)))
+    let opens = All-started IsBoundedTag tags point openings in
+    omega (arith, sum_by-le (costs_of changes starts) 4097000000 starts (λ k d within. let a = get_or starts k d in omega (arith, after a, opening_small starts a (opens k d within))))
   where
     bounded_by : (n : ℕ) → n ≤ length (started tags point) * 1000000 → n ≤ 4096000000
     bounded_by n low = omega (arith, low, few_started tags point, few)
@@ -93,5 +103,5 @@ worth_short program point lawful =
     let profit = program.profit_bounded in
     let entries = entries_small program.profit point bytes profit.fixed_small profit.per_small in
     let few = few_entries (length program.root) 2000000000000000 program.profit profit in
-    let costs = changeovers_small program.changes program.tags point (omega (arith, program.one_tag, program.few_slots)) program.costs_bounded in
+    let costs = changeovers_small program.changes program.tags point (omega (arith, program.one_tag, program.few_slots)) program.costs_bounded program.openings_bounded in
     omega (arith, ints, entries, few, costs, program.base_bounded, program.few_slots)

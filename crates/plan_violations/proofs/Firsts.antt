@@ -8,22 +8,22 @@ use Rattle.std.proofs.lemmas.List.{get_or-drop, length-drop}
 use Rattle.std.proofs.lemmas.List.Quantifiers.{position-Some}
 use Rattle.stn_model.specs.declared.plant.Plant.{Plant}
 use Rattle.stn_model.specs.declared.start.Start.{Start}
-use Rattle.stn_model.specs.Plant.{state_at, utility_at, end_of, gap_between}
+use Rattle.stn_model.specs.Plant.{state_at, utility_at, end_of, gap_between, ready_at}
 use Rattle.stn_model.specs.Fits.{Fits, is_fit}
-use Rattle.stn_model.specs.Batches.{Apart, is_next}
+use Rattle.stn_model.specs.Batches.{Apart, is_first, is_next}
 use Rattle.stn_model.specs.Stock.{stock}
 use Rattle.stn_model.specs.Load.{load}
 use Rattle.stn_model.specs.Sound.{Sound}
 use Rattle.stn_model.specs.Feasible.{Feasible, StockKept, LoadKept}
-use Rattle.stn_model.specs.Violations.{BreaksFirst, start_at, no_start, TooSoon}
+use Rattle.stn_model.specs.Violations.{BreaksFirst, start_at, no_start, TooEarly, TooSoon}
 use Rattle.stn_model.proofs.Fitting.{ends_later}
-use Rattle.plan_sim.specs.Units.{FitUntil, ApartUntil, ApartThroughout, NoneTooSoon, NoTwins, UnitsKept}
+use Rattle.plan_sim.specs.Units.{FitUntil, ApartUntil, ApartThroughout, BegunUntil, NoneTooSoon, NoTwins, UnitsKept}
 use Rattle.plan_sim.proofs.Following.{nearest_from_next, nearest_unique}
-use Rattle.plan_sim.proofs.Firsts.{unfit_first, busy_first, gap_first, no_twins, PlanKeptBefore, stock_not_before, load_not_before, feasible_from, feasible_breaks_nothing}
+use Rattle.plan_sim.proofs.Firsts.{unfit_first, busy_first, early_first, gap_first, no_twins, PlanKeptBefore, stock_not_before, load_not_before, feasible_from, feasible_breaks_nothing}
 use Rattle.plan_violations.specs.declared.breach.Breach.{Breach}
-use Rattle.plan_violations.specs.declared.breach.Breach.TheVariants.{Unfit, Busy, Gap, StockLow, StockHigh, Load}
+use Rattle.plan_violations.specs.declared.breach.Breach.TheVariants.{Unfit, Busy, Early, Gap, StockLow, StockHigh, Load}
 use Rattle.plan_violations.specs.Lists.{listed, listed_amount, listed_below}
-use Rattle.plan_violations.specs.Breaches.{misfit_of, unfit_at, meets, meeting_after, busy_at, early_by, comes_early, gap_at, excess, above, stock_at, load_at, amounts_at, of_units, breaches}
+use Rattle.plan_violations.specs.Breaches.{misfit_of, unfit_at, meets, meeting_after, busy_at, unready_by, early_at, early_by, comes_early, gap_at, excess, above, stock_at, load_at, amounts_at, of_units, breaches}
 use Rattle.plan_violations.specs.Laws.{violation_of, BeginsWithFirst}
 use Rattle.plan_violations.proofs.Places.{position_none}
 use Rattle.plan_violations.proofs.Leads.{Leads, append_none, leads_append, below_none, leads_below, leads_amount, amount_none}
@@ -155,6 +155,17 @@ module _ (plant : Plant) (plan : List Start) (sound : Sound plant) where
   unfolding meeting_after
   met_after k = met_by k (position (meets plant (start_at plan k)) (drop (k + 1) plan)) refl
 
+  early_none : (k : ℕ) → early_at plant plan k ≡ [] → ¬ TooEarly plant plan (start_at plan k)
+  unfolding early_at unready_by
+  early_none k e early =
+      let b = start_at plan k in
+      let here : listed_amount (λ n. Early k n) (ready_at plant b.unit b.task - b.period) ≡ [] = ap (λ (x : Bool). cond x (listed_amount (λ n. Early k n) (ready_at plant b.unit b.task - b.period)) []) (sym early.first) ∙ e in
+      let none = amount_none (λ n. Early k n) (ready_at plant b.unit b.task - b.period) here in
+      omega (arith, early.early, none)
+
+  begun_from : listed_below (early_at plant plan) (length plan) ≡ [] → BegunUntil plant plan (length plan)
+  begun_from e k h = early_none k (below_none (early_at plant plan) (length plan) e k h)
+
   -- every start fits
   module _ (fit : FitUntil plant plan (length plan)) where
     takes_time : (k : ℕ) → k < length plan → (start_at plan k).period < end_of plant (start_at plan k)
@@ -206,6 +217,19 @@ module _ (plant : Plant) (plan : List Start) (sound : Sound plant) where
         ]
       ]
 
+      early_leads : (k : ℕ) → k < length plan → ((j : ℕ) → j < k → early_at plant plan j ≡ []) → Leads (IsFirst plant plan) (early_at plant plan k)
+      unfolding early_at unready_by
+      early_leads k there earlier =
+          let b = start_at plan k in
+          let early = ready_at plant b.unit b.task - b.period in
+          let shown : Bool → List Breach = λ x. cond x (listed_amount (λ n. Early k n) early) [] in
+          elim (cases_Bool (is_first plan b)) [
+            | inl first ↦ subst (λ (x : Bool). Leads (IsFirst plant plan) (shown x)) (sym first)
+                (leads_amount (IsFirst plant plan) (λ n. Early k n) early (λ h.
+                early_first plant plan fit apart k (record { there = there; early = record { first = first; early = omega (arith, h) }; earlier = λ j l. early_none j (earlier j l) })))
+            | inr other ↦ subst (λ (x : Bool). Leads (IsFirst plant plan) (shown x)) (sym other) tt
+          ]
+
       is_later : (i j : ℕ) → j < length plan → TooSoon plant plan (start_at plan i) (start_at plan j) → (start_at plan i).period < (start_at plan j).period
       is_later i j l soon = (nearest_from_next plan (start_at plan i) j l soon.next).later.1
 
@@ -220,13 +244,13 @@ module _ (plant : Plant) (plan : List Start) (sound : Sound plant) where
       unfolding gap_at
       gap_none k there e = gap_none_by k there (position (comes_early plant plan (start_at plan k)) plan) refl e
 
-      gap_leads_by : (k : ℕ) → k < length plan → ((j : ℕ) → j < k → gap_at plant plan j ≡ []) → (o : Option ℕ) → position (comes_early plant plan (start_at plan k)) plan ≡ o → Leads (IsFirst plant plan) (listed (λ s. Gap k s (early_by plant (start_at plan k) (start_at plan s))) o)
-      gap_leads_by k there earlier None found = tt
-      gap_leads_by k there earlier (Some s) found =
+      gap_leads_by : BegunUntil plant plan (length plan) → (k : ℕ) → k < length plan → ((j : ℕ) → j < k → gap_at plant plan j ≡ []) → (o : Option ℕ) → position (comes_early plant plan (start_at plan k)) plan ≡ o → Leads (IsFirst plant plan) (listed (λ s. Gap k s (early_by plant (start_at plan k) (start_at plan s))) o)
+      gap_leads_by begun k there earlier None found = tt
+      gap_leads_by begun k there earlier (Some s) found =
           let a = start_at plan k in
           let first = position-Some (comes_early plant plan a) plan s no_start found in
           let soon : TooSoon plant plan a (start_at plan s) = early_soon plant plan a (start_at plan s) first.1 in
-          gap_first plant plan k s fit apart (record {
+          gap_first plant plan fit apart k s begun (record {
             there = there;
             follows = record {
               there = first.0;
@@ -236,9 +260,9 @@ module _ (plant : Plant) (plan : List Start) (sound : Sound plant) where
             earlier = λ j h. let in_plan : j < length plan = omega arith in gap_none j in_plan (earlier j h);
           })
 
-      gap_leads : (k : ℕ) → k < length plan → ((j : ℕ) → j < k → gap_at plant plan j ≡ []) → Leads (IsFirst plant plan) (gap_at plant plan k)
+      gap_leads : BegunUntil plant plan (length plan) → (k : ℕ) → k < length plan → ((j : ℕ) → j < k → gap_at plant plan j ≡ []) → Leads (IsFirst plant plan) (gap_at plant plan k)
       unfolding gap_at
-      gap_leads k there earlier = gap_leads_by k there earlier (position (comes_early plant plan (start_at plan k)) plan) refl
+      gap_leads begun k there earlier = gap_leads_by begun k there earlier (position (comes_early plant plan (start_at plan k)) plan) refl
 
   -- ---- all of the units
 
@@ -251,22 +275,31 @@ module _ (plant : Plant) (plan : List Start) (sound : Sound plant) where
   units_kept : of_units plant plan ≡ [] → UnitsKept plant plan
   unfolding of_units
   units_kept e =
-      let last = append_none (listed_below (unfit_at plant plan) (length plan) ++ listed_below (busy_at plant plan) (length plan)) (listed_below (gap_at plant plan) (length plan)) e in
-      let both = append_none (listed_below (unfit_at plant plan) (length plan)) (listed_below (busy_at plant plan) (length plan)) last.0 in
+      let last = append_none (listed_below (unfit_at plant plan) (length plan) ++ listed_below (busy_at plant plan) (length plan) ++ listed_below (early_at plant plan) (length plan)) (listed_below (gap_at plant plan) (length plan)) e in
+      let three = append_none (listed_below (unfit_at plant plan) (length plan) ++ listed_below (busy_at plant plan) (length plan)) (listed_below (early_at plant plan) (length plan)) last.0 in
+      let both = append_none (listed_below (unfit_at plant plan) (length plan)) (listed_below (busy_at plant plan) (length plan)) three.0 in
       let fit : FitUntil plant plan (length plan) = fit_from both.0 in
       let apart : ApartThroughout plant plan = apart_from fit both.1 in
-      record { fit = fit; apart = apart; cleaned = λ k h. gap_none fit apart k h (below_none (gap_at plant plan) (length plan) last.1 k h) }
+      record { fit = fit; apart = apart; begun = begun_from three.1; cleaned = λ k h. gap_none fit apart k h (below_none (gap_at plant plan) (length plan) last.1 k h) }
 
   units_lead : Leads (IsFirst plant plan) (of_units plant plan)
   unfolding of_units
   units_lead =
-      leads_append (IsFirst plant plan) (listed_below (unfit_at plant plan) (length plan) ++ listed_below (busy_at plant plan) (length plan)) (listed_below (gap_at plant plan) (length plan))
-      (leads_append (IsFirst plant plan) (listed_below (unfit_at plant plan) (length plan)) (listed_below (busy_at plant plan) (length plan))
+      let unfit = listed_below (unfit_at plant plan) (length plan) in
+      let busy = listed_below (busy_at plant plan) (length plan) in
+      let early = listed_below (early_at plant plan) (length plan) in
+      leads_append (IsFirst plant plan) (unfit ++ busy ++ early) (listed_below (gap_at plant plan) (length plan))
+      (leads_append (IsFirst plant plan) (unfit ++ busy) early
+      (leads_append (IsFirst plant plan) unfit busy
       (leads_below (IsFirst plant plan) (unfit_at plant plan) (length plan) unfit_leads)
       (λ e. leads_below (IsFirst plant plan) (busy_at plant plan) (length plan) (busy_leads (fit_from e))))
-      (λ e. let both = append_none (listed_below (unfit_at plant plan) (length plan)) (listed_below (busy_at plant plan) (length plan)) e in
+      (λ e. let both = append_none unfit busy e in
       let fit : FitUntil plant plan (length plan) = fit_from both.0 in
-      leads_below (IsFirst plant plan) (gap_at plant plan) (length plan) (gap_leads fit (apart_from fit both.1)))
+      leads_below (IsFirst plant plan) (early_at plant plan) (length plan) (early_leads fit (apart_from fit both.1))))
+      (λ e. let three = append_none (unfit ++ busy) early e in
+      let both = append_none unfit busy three.0 in
+      let fit : FitUntil plant plan (length plan) = fit_from both.0 in
+      leads_below (IsFirst plant plan) (gap_at plant plan) (length plan) (gap_leads fit (apart_from fit both.1) (begun_from three.1)))
 
   -- ---- stocks and loads
 

@@ -3,16 +3,16 @@ use Rattle.std.specs.Prelude.{ℕ, ℤ, pos, ◌+◌, ◌-◌, ◌-ℤ◌, int_l
 use Rattle.std.specs.Option.{is_some, option_map}
 use Rattle.stn_model.specs.declared.plant.Plant.{Plant}
 use Rattle.stn_model.specs.declared.start.Start.{Start}
-use Rattle.stn_model.specs.Plant.{state_at, utility_at, run_on, end_of, gap_between}
+use Rattle.stn_model.specs.Plant.{state_at, utility_at, run_on, end_of, gap_between, ready_at}
 use Rattle.stn_model.specs.Fits.{has_size, is_fit}
-use Rattle.stn_model.specs.Batches.{is_next}
+use Rattle.stn_model.specs.Batches.{is_first, is_next}
 use Rattle.stn_model.specs.Stock.{stock}
 use Rattle.stn_model.specs.Load.{load}
 use Rattle.stn_model.specs.Violations.{start_at}
 use Rattle.plan_violations.specs.declared.breach.Misfit.{Misfit}
 use Rattle.plan_violations.specs.declared.breach.Misfit.TheVariants.{Run, Size, Horizon, Outage}
 use Rattle.plan_violations.specs.declared.breach.Breach.{Breach}
-use Rattle.plan_violations.specs.declared.breach.Breach.TheVariants.{Unfit, Busy, Gap, StockLow, StockHigh, Load}
+use Rattle.plan_violations.specs.declared.breach.Breach.TheVariants.{Unfit, Busy, Early, Gap, StockLow, StockHigh, Load}
 use Rattle.plan_violations.specs.Lists.{listed, listed_amount, listed_below}
 
 -- Why a start does not fit, the first reason that holds: its unit can't run its task, the run has no batch of
@@ -41,6 +41,16 @@ meeting_after plant plan place =
 -- the batch at a place with the first later one that it meets
 unfoldable pub busy_at : Plant → List Start → ℕ → List Breach
 busy_at plant plan place = listed (λ second. Busy place second) (meeting_after plant plan place)
+
+-- by how many periods a batch begins before its unit is ready after the batch that held it last, 0 where it waits for that
+unfoldable pub unready_by : Plant → Start → ℕ
+unready_by plant b = ready_at plant b.unit b.task - b.period
+
+-- the batch at a place, where it comes first on its unit, and before the unit is ready
+unfoldable pub early_at : Plant → List Start → ℕ → List Breach
+early_at plant plan place =
+    if is_first plan (start_at plan place)
+    then listed_amount (λ early. Early place early) (unready_by plant (start_at plan place)) else []
 
 -- by how many periods a next batch comes before the unit is cleaned of a, 0 where it waits for that
 unfoldable pub early_by : Plant → Start → Start → ℕ
@@ -90,11 +100,13 @@ amounts_at plant plan time =
     listed_below (stock_at plant plan time) (length plant.states)
     ++ (if nat_lt time plant.periods then listed_below (load_at plant plan time) (length plant.utilities) else [])
 
--- the starts that do not fit, the batches that meet later ones, and the batches whose next ones come too early
+-- the starts that do not fit, the batches that meet later ones, the first batches that their units are not ready for, and
+-- the batches whose next ones come too early
 unfoldable pub of_units : Plant → List Start → List Breach
 of_units plant plan =
     listed_below (unfit_at plant plan) (length plan)
     ++ listed_below (busy_at plant plan) (length plan)
+    ++ listed_below (early_at plant plan) (length plan)
     ++ listed_below (gap_at plant plan) (length plan)
 
 -- Everything that a plan breaks: what its starts break on their units, and then time by time the stocks and

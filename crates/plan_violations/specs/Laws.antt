@@ -6,12 +6,13 @@ use Rattle.stn_model.specs.declared.violation.Violation.{Violation}
 use Rattle.stn_model.specs.declared.violation.Violation.TheVariants as first
 use Rattle.stn_model.specs.Violations.{BreaksFirst}
 use Rattle.plan_violations.specs.declared.breach.Breach.{Breach}
-use Rattle.plan_violations.specs.declared.breach.Breach.TheVariants.{Unfit, Busy, Gap, StockLow, StockHigh, Load}
+use Rattle.plan_violations.specs.declared.breach.Breach.TheVariants.{Unfit, Busy, Early, Gap, StockLow, StockHigh, Load}
 
 -- the violation without its cause or amount, as a simulation names it
 abbrev pub violation_of : Breach → Violation
 violation_of (Unfit place cause) = first.Unfit place
 violation_of (Busy one other) = first.Busy one other
+violation_of (Early place early) = first.Early place
 violation_of (Gap one other early) = first.Gap one other
 violation_of (StockLow state time short) = first.StockLow state time
 violation_of (StockHigh state time over) = first.StockHigh state time

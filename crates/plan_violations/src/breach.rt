@@ -26,6 +26,12 @@ pub enum Breach {
         first: u32,
         second: u32,
     },
+    /// The batch at a place is the first on its unit, and begins some periods before the batch that held the unit last
+    /// has ended and the unit is cleaned after it.
+    Early {
+        place: u32,
+        early: u128,
+    },
     /// The second batch begins some periods before the unit is cleaned of the first one.
     Gap {
         first: u32,

@@ -9,15 +9,16 @@ ghost use Rattle.plan_violations.specs.Laws.{BeginsWithFirst};
 use crate::amounts::list_amounts;
 use crate::breach::Breach;
 use crate::busy::list_busy;
-use crate::units::{list_gaps, list_unfit};
+use crate::units::{list_early, list_gaps, list_unfit};
 use crate::written::Written;
 use plan_sim::loads::loads;
 use plan_sim::stocks::stocks;
 use std::alloc::{AllocError, Global};
 use stn_model::{Plant, Start};
 
-/// Everything that the plan breaks on the plant: starts that do not fit, batches of one unit that meet, batches
-/// that begin before their unit is cleaned, and time by time the stocks and loads that are not kept, with
+/// Everything that the plan breaks on the plant: starts that do not fit, batches of one unit that meet, first batches
+/// that begin before their unit is ready after the batch that held it last, batches that begin before their unit is
+/// cleaned of the one before, and time by time the stocks and loads that are not kept, with
 /// amounts. Nothing where the plan is feasible, and else the first is what a simulation answers. The only error
 /// is want of memory. It takes memory for tables over units, states and utilities by periods, and for the list.
 /// Its time is the starts times the periods that they run, but for the next batches on a unit, for which the plan
@@ -53,6 +54,7 @@ fn list_units(alloc: Global, plant: &Plant, plan: &[Start], found: &mut Vec<Brea
 {
     list_unfit(plant, plan, found)?;
     list_busy(alloc, plant, plan, found)?;
+    list_early(plant, plan, found)?;
     list_gaps(plant, plan, found)
 }
 

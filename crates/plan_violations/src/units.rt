@@ -3,14 +3,14 @@ ghost use Rattle.std.specs.Prelude.{◌≡◌, ◌<◌, ◌^◌, ◌↔◌, ◌+
 ghost use Rattle.stn_model.specs.Violations.{start_at};
 ghost use Rattle.plan_sim.specs.Units.{NoneLater, IsNearest, IsLater};
 ghost use Rattle.plan_violations.specs.Lists.{listed_below};
-ghost use Rattle.plan_violations.specs.Breaches.{misfit_of, unfit_at, early_by, comes_early, gap_at};
+ghost use Rattle.plan_violations.specs.Breaches.{misfit_of, unfit_at, unready_by, early_at, early_by, comes_early, gap_at};
 ghost use Rattle.plan_violations.specs.Next.{early_until};
 
 use crate::breach::{Breach, Misfit};
 use crate::busy::do_meet;
 use crate::written::Written;
-use plan_sim::nearest::next_on_unit;
-use stn_model::{Plant, Start, end, fits, gap_of, run_for};
+use plan_sim::nearest::{is_first, next_on_unit};
+use stn_model::{Plant, Start, end, fits, gap_of, ready, run_for};
 
 /// Lists the starts that do not fit.
 pub fn list_unfit(plant: &Plant, plan: &[Start], found: &mut Vec<Breach>) -> Written
@@ -57,6 +57,43 @@ fn misfit(plant: &Plant, start: &Start) -> Misfit
             }
         }
     }
+}
+
+/// Lists each first batch of a unit that begins before the batch that held the unit last has ended and the unit is
+/// cleaned after it.
+pub fn list_early(plant: &Plant, plan: &[Start], found: &mut Vec<Breach>) -> Written
+    requires { length plan.now < 2 ^ 32 }
+    ensures { OnOk result (found.new.items
+        ≡ found.old.items ++ listed_below (early_at plant.now plan.now) (length plan.now)) }
+{
+    for place in 0..plan.len() {
+        push_early(plant, plan, place, found)?;
+    }
+    Ok(())
+}
+
+#[tactic(auto, unfolding(crate::specs::Breaches::early_at))]
+fn push_early(plant: &Plant, plan: &[Start], place: usize, found: &mut Vec<Breach>) -> Written
+    requires few { length plan.now < 2 ^ 32 }
+    requires there { place < length plan.now }
+    ensures { OnOk result (found.new.items ≡ found.old.items ++ early_at plant.now plan.now place) }
+{
+    let early = unready_by(plant, &plan[place]);
+    if 0 < early && is_first(plan, &plan[place]) {
+        found.push(Breach::Early {
+            place: place as u32,
+            early,
+        })?;
+    }
+    Ok(())
+}
+
+/// By how many periods a batch begins before its unit is ready after the batch that held it last.
+#[tactic(auto, unfolding(crate::specs::Breaches::unready_by))]
+fn unready_by(plant: &Plant, b: &Start) -> u128
+    ensures { result ≡ unready_by plant.now b.now }
+{
+    (ready(plant, b.unit, b.task) as u128).saturating_sub(b.period as u128)
 }
 
 /// Lists each batch whose next one on the unit comes too early, with the first such one of the plan.

@@ -14,11 +14,11 @@ use Rattle.stn_model.specs.Sound.{SoundInput, SoundOutput, SoundDraw, SoundTask,
 pub All-each : {X : Type 0} (P Q : X → Type 0) (xs : List X) → ((x : X) → P x → Q x) → All P xs → All Q xs
 All-each P Q xs follows all = λ k d within. follows (get_or xs k d) (all k d within)
 
--- two plants have as many states and utilities, and the same units and tasks
+-- two plants have as many states, utilities and units, and the same tasks
 pub record AreAlike (a b : Plant) : Type 0 where
   pub states : length a.states ≡ length b.states
   pub utilities : length a.utilities ≡ length b.utilities
-  pub units : a.units ≡ b.units
+  pub units : length a.units ≡ length b.units
   pub tasks : a.tasks ≡ b.tasks
 
 input_sound : (a b : Plant) (quantum : ℕ) (input : Input) → AreAlike a b → SoundInput b quantum input → SoundInput a quantum input
@@ -52,7 +52,7 @@ task_sound a b task same sound = record {
 }
 
 pub run_sound : (a b : Plant) (run : Run) → AreAlike a b → SoundRun b run → SoundRun a run
-run_sound a b run same sound = record { task = rw same.tasks sound.task; unit = rw same.units sound.unit; least = sound.least; range = sound.range; most = sound.most; cost = sound.cost }
+run_sound a b run same sound = record { task = rw same.tasks sound.task; unit = omega (arith, same.units, sound.unit); least = sound.least; range = sound.range; most = sound.most; cost = sound.cost }
 
 pub gap_sound : (a b : Plant) (gap : Gap) → AreAlike a b → SoundGap b gap → SoundGap a gap
-gap_sound a b gap same sound = record { unit = rw same.units sound.unit; from = rw same.tasks sound.from; to = rw same.tasks sound.to; periods = sound.periods; cost = sound.cost }
+gap_sound a b gap same sound = record { unit = omega (arith, same.units, sound.unit); from = rw same.tasks sound.from; to = rw same.tasks sound.to; periods = sound.periods; cost = sound.cost }

@@ -96,17 +96,25 @@ pub fn utility_copy(alloc: Global, utility: &Utility) -> Result<Utility, AllocEr
     })
 }
 
-/// The same units.
-pub fn units(alloc: Global, units: &[StnUnit]) -> Result<List<StnUnit>, AllocError>
+// The same units.
+fn units(alloc: Global, units: &[StnUnit]) -> Result<List<StnUnit>, AllocError>
     ensures { IfOk result (λ list. list ≡ units.now) }
 {
     let mut list = List::new(alloc);
     for unit in units {
-        list.push(StnUnit {
-            name: copied(alloc, unit.name.as_slice())?,
-        })?;
+        list.push(unit_copy(alloc, unit)?)?;
     }
     Ok(list)
+}
+
+/// The same unit.
+pub fn unit_copy(alloc: Global, unit: &StnUnit) -> Result<StnUnit, AllocError>
+    ensures { IfOk result (λ copy. copy ≡ unit.now) }
+{
+    Ok(StnUnit {
+        name: copied(alloc, unit.name.as_slice())?,
+        last: unit.last,
+    })
 }
 
 /// The same tasks.

@@ -3,4 +3,4 @@
 
 mod items;
 
-pub use items::{copied, first, plant_copy, state_copy, tasks, units, utility_copy};
+pub use items::{copied, first, plant_copy, state_copy, tasks, unit_copy, utility_copy};

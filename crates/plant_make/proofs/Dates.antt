@@ -1,8 +1,8 @@
 -- The document of a plant has no date, and so none that can't be printed.
-use Rattle.std.proofs.Common.{◌≡◌, ℕ, ℤ, Bool, true, false, cond, eqb, List, [], ◌∷◌, length, map, Option, Some, None, option_map, Ordering, Less, Equal, Greater, nat_cmp, refl}
+use Rattle.std.proofs.Common.{◌≡◌, ℕ, ℤ, pos, Bool, true, false, cond, eqb, List, [], ◌∷◌, length, map, Option, Some, None, option_map, Ordering, Less, Equal, Greater, nat_cmp, refl}
 use Rattle.std.specs.Cmp.Lexicographic.{slice_cmp}
 use Rattle.std.specs.List.{fold, AllByRecursion}
-use Rattle.std.specs.Ordering.{match_ordering}
+use Rattle.std.specs.Ordering.{match_ordering, int_eq}
 use Rattle.std.proofs.lemmas.Bool.{and_parts}
 use Rattle.toml.specs.Data.{Data, integer, Members, no_members, member, has_valid_dates, items_have_valid_dates, members_have_valid_dates}
 use Rattle.toml.specs.View.{items_of}
@@ -10,6 +10,7 @@ use Rattle.stn_model.specs.declared.plant.Plant.{Plant}
 use Rattle.stn_model.specs.declared.plant.State.{State}
 use Rattle.stn_model.specs.declared.plant.Utility.{Utility}
 use Rattle.stn_model.specs.declared.plant.StnUnit.{StnUnit}
+use Rattle.stn_model.specs.declared.plant.Last.{Last}
 use Rattle.stn_model.specs.declared.plant.Task.{Task}
 use Rattle.stn_model.specs.declared.plant.Input.{Input}
 use Rattle.stn_model.specs.declared.plant.Output.{Output}
@@ -22,7 +23,7 @@ use Rattle.stn_model.specs.declared.plant.Outage.{Outage}
 use Rattle.plant_text.specs.Words.{key_word}
 use Rattle.plant_make.specs.Entries.{Entry, with_member, with_entry, table_of, number, numbers, some_items}
 use Rattle.plant_make.specs.Numbers.{lone, several}
-use Rattle.plant_make.specs.Printed.{made_of, state_entries, utility_entries, unit_entries, input_entries, output_entries, draw_entries, task_entries, run_entries, gap_entries, receipt_entries, delivery_entries, outage_entries, plant_entries}
+use Rattle.plant_make.specs.Printed.{made_of, last_name, until_of, state_entries, utility_entries, unit_entries, input_entries, output_entries, draw_entries, task_entries, run_entries, gap_entries, receipt_entries, delivery_entries, outage_entries, plant_entries}
 
 -- what is held can be printed
 abbrev Plain : Data → Type 0
@@ -99,9 +100,21 @@ utility_plain : (utility : Utility) → Plain (made_of (utility_entries utility)
 unfolding utility_entries
 utility_plain utility = made_plain (utility_entries utility) (refl, (lone_plain (lone utility.limits), (several_plain (several utility.limits), (maybe_plain (eqb (length utility.rates) 0) utility.rate, (some_plain integer (λ x. refl) utility.rates, tt)))))
 
-unit_plain : (unit : StnUnit) → Plain (made_of (unit_entries unit))
+last_plain : (plant : Plant) (last : Option Last) → HeldPlain (last_name plant last)
+last_plain plant None = tt
+last_plain plant (Some last) = refl
+
+until_plain : (last : Option Last) → HeldPlain (until_of last)
+until_plain None = tt
+until_plain (Some last) = by_test (int_eq last.until (pos 0))
+  where
+    by_test : (zero : Bool) → HeldPlain (cond zero None (Some (integer last.until)))
+    by_test true = tt
+    by_test false = refl
+
+unit_plain : (plant : Plant) (unit : StnUnit) → Plain (made_of (unit_entries plant unit))
 unfolding unit_entries
-unit_plain unit = made_plain (unit_entries unit) (refl, tt)
+unit_plain plant unit = made_plain (unit_entries plant unit) (refl, (last_plain plant unit.last, (until_plain unit.last, tt)))
 
 input_plain : (plant : Plant) (quantum : ℕ) (input : Input) → Plain (made_of (input_entries plant quantum input))
 unfolding input_entries
@@ -154,7 +167,7 @@ document_plain plant =
           (
             some_plain _ utility_plain plant.utilities,
             (
-              some_plain _ unit_plain plant.units,
+              some_plain _ (unit_plain plant) plant.units,
               (
                 some_plain _ (task_plain plant) plant.tasks,
                 (

@@ -1,12 +1,14 @@
 -- The document of a plant is not deep.
-use Rattle.std.proofs.Common.{ℕ, ℤ, ◌+◌, ◌≤◌, Bool, true, false, cond, eqb, List, [], ◌∷◌, length, map, Option, Some, None, option_map, arith}
+use Rattle.std.proofs.Common.{ℕ, ℤ, pos, ◌+◌, ◌≤◌, Bool, true, false, cond, eqb, List, [], ◌∷◌, length, map, Option, Some, None, option_map, arith}
 use Rattle.std.specs.List.{AllByRecursion}
+use Rattle.std.specs.Ordering.{int_eq}
 use Rattle.toml.specs.Data.{Data, integer, depth, items_depth, members_depth}
 use Rattle.toml.specs.View.{items_of}
 use Rattle.stn_model.specs.declared.plant.Plant.{Plant}
 use Rattle.stn_model.specs.declared.plant.State.{State}
 use Rattle.stn_model.specs.declared.plant.Utility.{Utility}
 use Rattle.stn_model.specs.declared.plant.StnUnit.{StnUnit}
+use Rattle.stn_model.specs.declared.plant.Last.{Last}
 use Rattle.stn_model.specs.declared.plant.Task.{Task}
 use Rattle.stn_model.specs.declared.plant.Input.{Input}
 use Rattle.stn_model.specs.declared.plant.Output.{Output}
@@ -18,7 +20,7 @@ use Rattle.stn_model.specs.declared.plant.Delivery.{Delivery}
 use Rattle.stn_model.specs.declared.plant.Outage.{Outage}
 use Rattle.plant_make.specs.Entries.{Entry, table_of, number, numbers, some_items}
 use Rattle.plant_make.specs.Numbers.{lone, several}
-use Rattle.plant_make.specs.Printed.{made_of, state_entries, utility_entries, unit_entries, input_entries, output_entries, draw_entries, task_entries, run_entries, gap_entries, receipt_entries, delivery_entries, outage_entries, plant_entries}
+use Rattle.plant_make.specs.Printed.{made_of, last_name, until_of, state_entries, utility_entries, unit_entries, input_entries, output_entries, draw_entries, task_entries, run_entries, gap_entries, receipt_entries, delivery_entries, outage_entries, plant_entries}
 use Rattle.plant_make.proofs.Tables.{Shallow, held_depth, depth_of_entries}
 
 items_low : (n : ℕ) (ds : List Data) → AllByRecursion (λ d. depth d ≤ n) ds → items_depth (items_of ds) ≤ n
@@ -70,9 +72,21 @@ utility_low : (utility : Utility) → depth (made_of (utility_entries utility)) 
 unfolding utility_entries
 utility_low utility = made_low 1 (utility_entries utility) (zero_low, (lone_low (lone utility.limits), (several_low (several utility.limits), (maybe_low (eqb (length utility.rates) 0) utility.rate, (some_low 0 _ (rows_low integer 0 (λ x. none_deep) utility.rates), tt)))))
 
-unit_low : (unit : StnUnit) → depth (made_of (unit_entries unit)) ≤ 2
+last_low : (plant : Plant) (last : Option Last) → held_depth (last_name plant last) ≤ 1
+last_low plant None = omega arith
+last_low plant (Some last) = omega arith
+
+until_low : (last : Option Last) → held_depth (until_of last) ≤ 1
+until_low None = omega arith
+until_low (Some last) = by_test (int_eq last.until (pos 0))
+  where
+    by_test : (zero : Bool) → held_depth (cond zero None (Some (integer last.until))) ≤ 1
+    by_test true = omega arith
+    by_test false = omega arith
+
+unit_low : (plant : Plant) (unit : StnUnit) → depth (made_of (unit_entries plant unit)) ≤ 2
 unfolding unit_entries
-unit_low unit = made_low 1 (unit_entries unit) (zero_low, tt)
+unit_low plant unit = made_low 1 (unit_entries plant unit) (zero_low, (last_low plant unit.last, (until_low unit.last, tt)))
 
 input_low : (plant : Plant) (quantum : ℕ) (input : Input) → depth (made_of (input_entries plant quantum input)) ≤ 2
 unfolding input_entries
@@ -140,7 +154,7 @@ document_low plant =
           (
             some_low 4 _ (rows_low _ 4 (λ utility. four (made_of (utility_entries utility)) (utility_low utility)) plant.utilities),
             (
-              some_low 4 _ (rows_low _ 4 (λ unit. four (made_of (unit_entries unit)) (unit_low unit)) plant.units),
+              some_low 4 _ (rows_low _ 4 (λ unit. four (made_of (unit_entries plant unit)) (unit_low plant unit)) plant.units),
               (
                 some_low 4 _ (rows_low _ 4 (task_low plant) plant.tasks),
                 (

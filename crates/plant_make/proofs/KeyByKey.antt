@@ -40,7 +40,7 @@ pub plant_chain : (plant : Plant) (t0 t1 t2 t3 t4 t5 t6 t7 t8 t9 t10 t11 : Membe
     → t8 ≡ with_entry t7 (key.Gap, some_items (map (λ (gap : Gap). made_of (gap_entries plant gap)) plant.gaps))
     → t7 ≡ with_entry t6 (key.Run, some_items (map (λ (run : Run). made_of (run_entries plant run)) plant.runs))
     → t6 ≡ with_entry t5 (key.Task, some_items (map (λ (task : Task). made_of (task_entries plant task)) plant.tasks))
-    → t5 ≡ with_entry t4 (key.StnUnit, some_items (map (λ (unit : StnUnit). made_of (unit_entries unit)) plant.units))
+    → t5 ≡ with_entry t4 (key.StnUnit, some_items (map (λ (unit : StnUnit). made_of (unit_entries plant unit)) plant.units))
     → t4 ≡ with_entry t3 (key.Utility, some_items (map (λ (utility : Utility). made_of (utility_entries utility)) plant.utilities))
     → t3 ≡ with_entry t2 (key.State, some_items (map (λ (state : State). made_of (state_entries state)) plant.states))
     → t2 ≡ with_member (key_word key.Periods) periods t1 → t1 ≡ with_member (key_word key.Version) version t0

@@ -7,6 +7,7 @@ pub mod KeyByKey
 pub mod Lists
 pub mod Limits
 pub mod Rates
+pub mod Lasts
 pub mod Reading
 pub mod TaskReading
 pub mod PlantReading

@@ -4,7 +4,7 @@ use Rattle.std.specs.List.{position_from, list_any, AllByRecursion}
 use Rattle.std.specs.Str.{bytes_eq}
 use Rattle.std.proofs.lemmas.Bool.{cases_Bool}
 use Rattle.std.proofs.lemmas.Slice.Eq.{bytes_eq-Decides}
-use Rattle.plant_text.specs.Tests.{Test, rows_tests}
+use Rattle.plant_text.specs.Tests.{Test, rows_tests, numbered_tests}
 use Rattle.plant_text.specs.Names.{first_places}
 use Rattle.plant_text.proofs.Faults.{passes, nothing}
 use Rattle.plant_make.proofs.Passing.{Pass}
@@ -62,6 +62,19 @@ module _ {X Y : Type 0} (tests : List Y → X → List Test) (value : X → Y) (
   -- printed items pass their tests, and are read as they were
   pub rows_read : Pass (rows_tests tests value [] (map made whole)) × (map value (map made whole) ≡ whole)
   rows_read = rows_from [] whole refl
+
+module _ {X Y : Type 0} (tests : ℕ → X → List Test) (made : Y → X) (whole : List Y)
+    (each : (earlier : List Y) (y : Y) → IsNext whole earlier y → (number : ℕ) → Pass (tests number (made y))) where
+  numbered_from : (earlier rest : List Y) (number : ℕ) → earlier ++ rest ≡ whole → Pass (numbered_tests tests number (map made rest))
+  numbered_from earlier [] number is = nothing
+  numbered_from earlier (y ∷ rest) number is =
+      let here = each earlier y (subst (λ (ys : List Y). IsNext ys earlier y) is (next_in earlier rest y)) number in
+      let more = numbered_from (earlier ++ y ∷ []) rest (number + 1) (append_assoc earlier (y ∷ []) rest ∙ is) in
+      passes (tests number (made y)) _ here more
+
+  -- and the tests that each has by its number
+  pub numbered_read : Pass (numbered_tests tests 0 (map made whole))
+  numbered_read = numbered_from [] whole 0 refl
 
 -- what holds of each item, holds of the next one
 pub at_next : {Y : Type 0} (P : Y → Type 0) (whole earlier : List Y) (y : Y) → All P whole → IsNext whole earlier y → P y

@@ -1,5 +1,5 @@
 -- The plants that are made are sound.
-use Rattle.std.proofs.Common.{◌≡◌, ◌≢◌, ℕ, zero, suc, ◌+◌, ◌*◌, ◌<◌, ◌≤◌, ◌&&◌, nat_le, eqb, Bool, true, false, not, cond, List, [], ◌∷◌, ◌++◌, map, length, replicate, All, AllPairs, IsTrue, length-append, refl, sym, subst, ◌∙◌, inl, inr, arith}
+use Rattle.std.proofs.Common.{◌≡◌, ◌≢◌, ℕ, zero, suc, ◌+◌, ◌*◌, ◌<◌, ◌≤◌, ◌&&◌, nat_le, eqb, Bool, true, false, not, cond, List, [], ◌∷◌, ◌++◌, map, length, replicate, None, All, AllPairs, IsTrue, length-append, refl, sym, subst, ◌∙◌, inl, inr, arith}
 use Rattle.std.specs.List.{AllByRecursion, list_any}
 use Rattle.std.specs.Char.{is_ascii_alphabetic}
 use Rattle.std.specs.Str.{bytes_eq}
@@ -17,9 +17,10 @@ use Rattle.stn_model.specs.declared.plant.Task.{Task}
 use Rattle.stn_model.specs.declared.plant.Run.{Run}
 use Rattle.stn_model.specs.declared.plant.Gap.{Gap}
 use Rattle.stn_model.specs.Plant.{duration_of}
-use Rattle.stn_model.specs.Sound.{Sound, SoundState, SoundUtility, SoundInput, SoundOutput, SoundDraw, SoundTask, SoundRun, SoundGap, SoundCounts, SmallCounts, SoundNames, IsPart, is_name, is_name_byte}
+use Rattle.stn_model.specs.Sound.{Sound, SoundState, SoundUtility, SoundUnit, SoundInput, SoundOutput, SoundDraw, SoundTask, SoundRun, SoundGap, SoundCounts, SmallCounts, SoundNames, IsPart, is_name, is_name_byte}
 use Rattle.plant_make.specs.Made.{number_at, of_chain, letter_name, chained, states_of, second_task, tasks_of, runs_of, units_of, gaps_of, steam_of, plant_made}
 use Rattle.plant_make.proofs.Counts.{AreShort, few_slots, few_pairs}
+use Rattle.plant_make.proofs.Lists.{all_so}
 
 -- a number is below its bound
 taken-below : (seed place n : ℕ) → 0 < n → number_at seed place n < n
@@ -266,9 +267,14 @@ one_unit : (unit : ℕ) → length (units_of unit) ≡ 1
 unfolding units_of
 one_unit unit = refl
 
-units_good : (unit : ℕ) → unit < 3 → AllByRecursion (λ (u : StnUnit). IsTrue (is_name u.name)) (units_of unit)
+units_good : (plant : Plant) (unit : ℕ) → unit < 3 → AllByRecursion (SoundUnit plant) (units_of unit)
 unfolding units_of
-units_good unit below = (name_of_letter 85 unit refl (omega arith), tt)
+units_good plant unit below = (record { name = name_of_letter 85 unit refl (omega arith); last = tt }, tt)
+
+-- no batch held a unit before
+units_fresh : (unit : ℕ) → unit < 3 → AllByRecursion (λ (u : StnUnit). u.last ≡ None) (units_of unit)
+unfolding units_of
+units_fresh unit below = (refl, tt)
 
 steam_sound : (seed chains : ℕ) → SoundUtility 12 (steam_of seed chains)
 unfolding steam_of
@@ -356,6 +362,8 @@ module _ (seed chains : ℕ) (plant : Plant) (made : IsMade seed chains plant) (
     slots = few_slots plant made.periods (omega (arith, runs_long));
     gap_pairs = few_pairs plant made.periods (omega (arith, runs_long)) gaps_all_short;
     rates = rw made.utilities (all_of_one (λ (utility : Utility). utility.rates ≡ []) _ (one_rate seed chains));
+    gaps = All-from_recursion (λ (gap : Gap). gap.periods ≤ 96) _ (all_so (λ (gap : Gap). gap.periods ≤ 1) (λ (gap : Gap). gap.periods ≤ 96) (λ gap short. omega arith) plant.gaps gaps_all_short);
+    lasts = rw made.units (All-from_recursion (λ (unit : StnUnit). unit.last ≡ None) _ (all_chained (λ (unit : StnUnit). unit.last ≡ None) units_of 3 units_fresh));
   }
 
   names : SoundNames plant
@@ -374,7 +382,7 @@ module _ (seed chains : ℕ) (plant : Plant) (made : IsMade seed chains plant) (
     names = names;
     states = rw (made.periods, made.states) (All-from_recursion (SoundState 12) _ (all_chained (SoundState 12) (states_of seed) chains (λ chain below. states_sound seed chain (omega arith))));
     utilities = rw (made.periods, made.utilities) (all_of_one (SoundUtility 12) _ (steam_sound seed chains));
-    units = rw made.units (All-from_recursion (λ (unit : StnUnit). IsTrue (is_name unit.name)) _ (all_chained (λ (unit : StnUnit). IsTrue (is_name unit.name)) units_of 3 units_good));
+    units = subst (All (SoundUnit plant)) (sym made.units) (All-from_recursion (SoundUnit plant) _ (all_chained (SoundUnit plant) units_of 3 (units_good plant)));
     tasks = subst (All (SoundTask plant)) (sym made.tasks) (All-from_recursion (SoundTask plant) _ (all_chained (SoundTask plant) (tasks_of seed) chains (λ chain below. tasks_sound plant seed chains chain states_long utilities_long below most)));
     runs = subst (All (SoundRun plant)) (sym made.runs) (All-from_recursion (SoundRun plant) _ (all_chained (SoundRun plant) (runs_of seed) chains (λ chain below. runs_sound plant seed chains chain tasks_long units_long below)));
     gaps = subst (All (SoundGap plant)) (sym made.gaps) (All-from_recursion (SoundGap plant) _ (where_second (SoundGap plant) chains (λ second. all_chained (SoundGap plant) gaps_of 3 (λ unit below. gaps_sound plant unit (omega (arith, tasks_long)) (omega (arith, units_long))))));

@@ -1,5 +1,5 @@
 -- The document of a plant is read as the plant.
-use Rattle.std.proofs.Common.{◌≡◌, ◌≢◌, ℕ, ◌≤◌, nat_lt, Bool, true, false, cond, ◌&&◌, ◌||◌, eqb, List, [], ◌++◌, map, take, length, get_or, AllPairs, Option, Some, option_map, unwrap_or, refl, ap, inl, inr, arith}
+use Rattle.std.proofs.Common.{◌≡◌, ◌≢◌, ℕ, ◌≤◌, nat_lt, Bool, true, false, cond, ◌&&◌, ◌||◌, eqb, List, [], ◌++◌, map, take, length, get_or, AllPairs, Option, Some, None, option_map, unwrap_or, refl, ap, inl, inr, arith}
 use Rattle.std.proofs.lemmas.Bool.{cases_Bool, and_parts, eqb-true}
 use Rattle.std.proofs.lemmas.Bool.Decides.{nat_tests}
 use Rattle.std.proofs.lemmas.List.{length-map, take_all}
@@ -14,26 +14,25 @@ use Rattle.stn_model.specs.declared.plant.Gap.{Gap}
 use Rattle.stn_model.specs.declared.plant.Receipt.{Receipt}
 use Rattle.stn_model.specs.declared.plant.Delivery.{Delivery}
 use Rattle.stn_model.specs.declared.plant.Outage.{Outage}
-use Rattle.stn_model.specs.Plant.{no_state, no_utility, no_task}
+use Rattle.stn_model.specs.Plant.{no_state, no_utility, no_unit, no_task}
 use Rattle.stn_model.specs.Points.{slot_count, gap_pairs}
-use Rattle.stn_model.specs.Sound.{Sound, SoundState, SoundUtility, SoundTask, SoundRun, SoundGap, SoundReceipt, SoundDelivery, SoundOutage, is_name}
-use Rattle.std.specs.Prelude.{IsTrue}
+use Rattle.stn_model.specs.Sound.{Sound, SoundState, SoundUtility, SoundUnit, SoundTask, SoundRun, SoundGap, SoundReceipt, SoundDelivery, SoundOutage}
 use Rattle.plant_text.specs.declared.fault.KeyName.TheVariants as key
 use Rattle.plant_text.specs.Words.{key_word}
-use Rattle.plant_text.specs.Tests.{rows_tests}
+use Rattle.plant_text.specs.Tests.{rows_tests, numbered_tests}
 use Rattle.plant_text.specs.Fields.{held, needed, optional, since, items_of, items_at, at_key, count_of}
 use Rattle.plant_text.specs.Names.{name_in, first_places}
 use Rattle.plant_text.specs.Scope.{Scope}
-use Rattle.plant_text.specs.Tables.{has_run, state_tests, state_of, utility_tests, utility_of, unit_tests, unit_of, task_tests, task_of, run_tests, run_of, gap_tests, gap_of, receipt_tests, receipt_of, delivery_tests, delivery_of, outage_tests, outage_of}
-use Rattle.plant_text.specs.Document.{is_second, is_third, scope_in, size_fields, array_fields, plant_with, plant_in, size_tests, unknown_tests, document_tests, top_place}
+use Rattle.plant_text.specs.Tables.{has_run, state_tests, state_of, utility_tests, utility_of, unit_tests, unit_of, last_tests, task_tests, task_of, run_tests, run_of, gap_tests, gap_of, receipt_tests, receipt_of, delivery_tests, delivery_of, outage_tests, outage_of}
+use Rattle.plant_text.specs.Document.{is_second, is_third, scope_in, size_fields, named_fields, referring_fields, lasts_tests, plant_with, plant_in, size_tests, unknown_tests, document_tests, top_place}
 use Rattle.plant_text.specs.Fields as fields
 use Rattle.plant_text.proofs.Faults.{passes, nothing}
 use Rattle.plant_make.specs.Entries.{table_of, number, some_items}
 use Rattle.plant_make.specs.Printed.{made_of, state_entries, utility_entries, unit_entries, task_entries, run_entries, gap_entries, receipt_entries, delivery_entries, outage_entries, plant_entries}
-use Rattle.plant_make.proofs.Lists.{IsNext, named_at, rows_read, at_next, map_same, none_any}
+use Rattle.plant_make.proofs.Lists.{IsNext, named_at, rows_read, numbered_read, at_next, map_same, none_any}
 use Rattle.plant_make.proofs.Tables.{held_is, held_maybe, all_known}
 use Rattle.plant_make.proofs.Passing.{Pass, count_ok, maybe_tables_ok, items_back, one_more}
-use Rattle.plant_make.proofs.Reading.{IsScopeOf, state_ok, utility_ok, unit_ok, run_ok, gap_ok, receipt_ok, delivery_ok, outage_ok}
+use Rattle.plant_make.proofs.Reading.{IsScopeOf, state_ok, utility_ok, unit_ok, last_ok, run_ok, gap_ok, receipt_ok, delivery_ok, outage_ok}
 use Rattle.plant_make.proofs.TaskReading.{task_ok}
 
 -- the scope that a plant is read against
@@ -55,7 +54,7 @@ is_scope plant sound = record {
   periods = refl;
   states = λ k within. named_at (λ (state : State). state.name) plant.states k no_state sound.names.states within;
   utilities = λ k within. named_at (λ (utility : Utility). utility.name) plant.utilities k no_utility sound.names.utilities within;
-  units = λ k within. named_at (λ (unit : StnUnit). unit.name) plant.units k (record { name = [] }) sound.names.units within;
+  units = λ k within. named_at (λ (unit : StnUnit). unit.name) plant.units k no_unit sound.names.units within;
   tasks = λ k within. named_at (λ (task : Task). task.name) plant.tasks k no_task sound.names.tasks within;
 }
 
@@ -66,8 +65,8 @@ state_made state = made_of (state_entries state)
 abbrev utility_made : Utility → Data
 utility_made utility = made_of (utility_entries utility)
 
-abbrev unit_made : StnUnit → Data
-unit_made unit = made_of (unit_entries unit)
+abbrev unit_made : Plant → StnUnit → Data
+unit_made plant unit = made_of (unit_entries plant unit)
 
 abbrev task_made : Plant → Task → Data
 task_made plant task = made_of (task_entries plant task)
@@ -96,9 +95,9 @@ utility_named : (utility : Utility) → name_in (utility_made utility) ≡ utili
 unfolding utility_entries key_word
 utility_named utility = rw (held_is (needed key.Name) (utility_entries utility) _ refl refl) refl
 
-unit_named : (unit : StnUnit) → name_in (unit_made unit) ≡ unit.name
+unit_named : (plant : Plant) (unit : StnUnit) → name_in (unit_made plant unit) ≡ unit.name
 unfolding unit_entries key_word
-unit_named unit = rw (held_is (needed key.Name) (unit_entries unit) _ refl refl) refl
+unit_named plant unit = rw (held_is (needed key.Name) (unit_entries plant unit) _ refl refl) refl
 
 task_named : (plant : Plant) (task : Task) → name_in (task_made plant task) ≡ task.name
 unfolding task_entries key_word
@@ -147,11 +146,19 @@ module _ (plant : Plant) (sound : Sound plant) where
       (λ is. at_next (λ (utility : Utility). utility.rates ≡ []) plant.utilities earlier utility (sound.small is).rates next) sound.counts.periods.0
       (rw (← next.is no_utility) (reads.utilities (length earlier) next.within)))
 
-  units_read : Pass (rows_tests (λ (earlier : List StnUnit) (d : Data). unit_tests scope (length earlier) d) unit_of [] (map unit_made plant.units)) × (map unit_of (map unit_made plant.units) ≡ plant.units)
+  units_read : Pass (rows_tests (λ (earlier : List StnUnit) (d : Data). unit_tests scope (length earlier) d) (unit_of scope) [] (map (unit_made plant) plant.units)) × (map (unit_of scope) (map (unit_made plant) plant.units) ≡ plant.units)
   units_read =
-      rows_read (λ (earlier : List StnUnit) (d : Data). unit_tests scope (length earlier) d) unit_of unit_made plant.units (λ earlier unit next.
-      unit_ok scope (length earlier) unit (at_next (λ (unit : StnUnit). IsTrue (is_name unit.name)) plant.units earlier unit sound.units next)
-      (rw (← next.is (record { name = [] })) (reads.units (length earlier) next.within)))
+      rows_read (λ (earlier : List StnUnit) (d : Data). unit_tests scope (length earlier) d) (unit_of scope) (unit_made plant) plant.units (λ earlier unit next.
+      unit_ok scope plant (length earlier) unit reads (at_next (SoundUnit plant) plant.units earlier unit sound.units next)
+      (λ is. at_next (λ (unit : StnUnit). unit.last ≡ None) plant.units earlier unit (sound.small is).lasts next)
+      (rw (← next.is no_unit) (reads.units (length earlier) next.within)))
+
+  -- the tasks that units name are declared
+  lasts_read : Pass (numbered_tests (last_tests scope) 0 (map (unit_made plant) plant.units))
+  lasts_read =
+      numbered_read (last_tests scope) (unit_made plant) plant.units (λ earlier unit next number.
+      last_ok scope plant number unit reads (at_next (SoundUnit plant) plant.units earlier unit sound.units next)
+      (λ is. at_next (λ (unit : StnUnit). unit.last ≡ None) plant.units earlier unit (sound.small is).lasts next))
 
   tasks_read : Pass (rows_tests (λ (earlier : List Task) (d : Data). task_tests scope (length earlier) d) (task_of scope) [] (map (task_made plant) plant.tasks)) × (map (task_of scope) (map (task_made plant) plant.tasks) ≡ plant.tasks)
   tasks_read =
@@ -167,7 +174,8 @@ module _ (plant : Plant) (sound : Sound plant) where
   gaps_read : Pass (rows_tests (λ (earlier : List Gap) (d : Data). gap_tests scope (length earlier) d) (gap_of scope) [] (map (gap_made plant) plant.gaps)) × (map (gap_of scope) (map (gap_made plant) plant.gaps) ≡ plant.gaps)
   gaps_read =
       rows_read (λ (earlier : List Gap) (d : Data). gap_tests scope (length earlier) d) (gap_of scope) (gap_made plant) plant.gaps (λ earlier gap next.
-      gap_ok scope plant (length earlier) gap reads (at_next (SoundGap plant) plant.gaps earlier gap sound.gaps next))
+      gap_ok scope plant (length earlier) gap reads (at_next (SoundGap plant) plant.gaps earlier gap sound.gaps next)
+      (λ is. at_next (λ (gap : Gap). gap.periods ≤ 96) plant.gaps earlier gap (sound.small is).gaps next))
 
   receipts_read : Pass (rows_tests (λ (earlier : List Receipt) (d : Data). receipt_tests scope (length earlier) d) (receipt_of scope) [] (map (receipt_made plant) plant.receipts)) × (map (receipt_of scope) (map (receipt_made plant) plant.receipts) ≡ plant.receipts)
   receipts_read =
@@ -190,7 +198,7 @@ record Holds (plant : Plant) (inside : Members) : Type 0 where
   periods : held inside (needed key.Periods) ≡ Some (number plant.periods)
   states : held inside (optional key.State) ≡ some_items (map state_made plant.states)
   utilities : held inside (optional key.Utility) ≡ some_items (map utility_made plant.utilities)
-  units : held inside (optional key.StnUnit) ≡ some_items (map unit_made plant.units)
+  units : held inside (optional key.StnUnit) ≡ some_items (map (unit_made plant) plant.units)
   tasks : held inside (optional key.Task) ≡ some_items (map (task_made plant) plant.tasks)
   runs : held inside (optional key.Run) ≡ some_items (map (run_made plant) plant.runs)
   gaps : held inside (optional key.Gap) ≡ some_items (map (gap_made plant) plant.gaps)
@@ -280,7 +288,7 @@ scope_is plant inside sound holds =
     let periods : at_key count_of 0 inside (needed key.Periods) ≡ plant.periods = rw holds.periods refl in
     let states = names_are state_made (λ (state : State). state.name) plant.states (cond plant.large 160 40) (held inside (optional key.State)) holds.states few.states state_named in
     let utilities = names_are utility_made (λ (utility : Utility). utility.name) plant.utilities (cond plant.large 64 8) (held inside (optional key.Utility)) holds.utilities few.utilities utility_named in
-    let units = names_are unit_made (λ (unit : StnUnit). unit.name) plant.units (cond plant.large 96 24) (held inside (optional key.StnUnit)) holds.units few.units unit_named in
+    let units = names_are (unit_made plant) (λ (unit : StnUnit). unit.name) plant.units (cond plant.large 96 24) (held inside (optional key.StnUnit)) holds.units few.units (unit_named plant) in
     let tasks = names_are (task_made plant) (λ (task : Task). task.name) plant.tasks (cond plant.large 160 40) (held inside (optional key.Task)) holds.tasks few.tasks (task_named plant) in
     rw (second, third, periods, states, utilities, units, tasks) refl
 
@@ -291,7 +299,7 @@ plant_is plant inside sound holds =
     rw (scope_is plant inside sound holds) (
     let states : items_at inside (optional key.State) ≡ map state_made plant.states = items_back _ _ holds.states in
     let utilities : items_at inside (optional key.Utility) ≡ map utility_made plant.utilities = items_back _ _ holds.utilities in
-    let units : items_at inside (optional key.StnUnit) ≡ map unit_made plant.units = items_back _ _ holds.units in
+    let units : items_at inside (optional key.StnUnit) ≡ map (unit_made plant) plant.units = items_back _ _ holds.units in
     let tasks : items_at inside (optional key.Task) ≡ map (task_made plant) plant.tasks = items_back _ _ holds.tasks in
     let runs : items_at inside (optional key.Run) ≡ map (run_made plant) plant.runs = items_back _ _ holds.runs in
     let gaps : items_at inside (optional key.Gap) ≡ map (gap_made plant) plant.gaps = items_back _ _ holds.gaps in
@@ -311,27 +319,36 @@ sizes_ok plant sound =
     let few = counts_by plant sound in
     one_more _ _ _ (not_above _ _ few.slots) (one_more _ _ [] (not_above _ _ few.gap_pairs) nothing)
 
-arrays_ok : (plant : Plant) (inside : Members) → Sound plant → Holds plant inside → Pass (fields.fields_tests top_place inside (array_fields (scope_for plant)))
-arrays_ok plant inside sound holds =
+named_ok : (plant : Plant) (inside : Members) → Sound plant → Holds plant inside → Pass (fields.fields_tests top_place inside (named_fields (scope_for plant)))
+named_ok plant inside sound holds =
     let few = counts_by plant sound in
     passes _ _ (maybe_tables_ok _ _ _ _ _ _ holds.states refl (rw (length-map plant.states state_made) few.states) (states_read plant sound).0)
     (passes _ _ (maybe_tables_ok _ _ _ _ _ _ holds.utilities refl (rw (length-map plant.utilities utility_made) few.utilities) (utilities_read plant sound).0)
-    (passes _ _ (maybe_tables_ok _ _ _ _ _ _ holds.units refl (rw (length-map plant.units unit_made) few.units) (units_read plant sound).0)
-    (passes _ _ (maybe_tables_ok _ _ _ _ _ _ holds.tasks refl (rw (length-map plant.tasks (task_made plant)) few.tasks) (tasks_read plant sound).0)
-    (passes _ _ (maybe_tables_ok _ _ _ _ _ _ holds.runs refl (rw (length-map plant.runs (run_made plant)) few.runs) (runs_read plant sound).0)
+    (passes _ _ (maybe_tables_ok _ _ _ _ _ _ holds.units refl (rw (length-map plant.units (unit_made plant)) few.units) (units_read plant sound).0)
+    (passes _ _ (maybe_tables_ok _ _ _ _ _ _ holds.tasks refl (rw (length-map plant.tasks (task_made plant)) few.tasks) (tasks_read plant sound).0) nothing)))
+
+lasts_ok : (plant : Plant) (inside : Members) → Sound plant → Holds plant inside → Pass (lasts_tests (scope_for plant) inside)
+lasts_ok plant inside sound holds =
+    let units : items_at inside (optional key.StnUnit) ≡ map (unit_made plant) plant.units = items_back _ _ holds.units in
+    rw units (lasts_read plant sound)
+
+referring_ok : (plant : Plant) (inside : Members) → Sound plant → Holds plant inside → Pass (fields.fields_tests top_place inside (referring_fields (scope_for plant)))
+referring_ok plant inside sound holds =
+    let few = counts_by plant sound in
+    passes _ _ (maybe_tables_ok _ _ _ _ _ _ holds.runs refl (rw (length-map plant.runs (run_made plant)) few.runs) (runs_read plant sound).0)
     (passes _ _ (maybe_tables_ok _ _ _ _ _ _ holds.gaps refl (rw (length-map plant.gaps (gap_made plant)) sound.counts.gaps) (gaps_read plant sound).0)
     (passes _ _ (maybe_tables_ok _ _ _ _ _ _ holds.receipts refl (rw (length-map plant.receipts (receipt_made plant)) few.receipts) (receipts_read plant sound).0)
     (passes _ _ (maybe_tables_ok _ _ _ _ _ _ holds.deliveries refl (rw (length-map plant.deliveries (delivery_made plant)) few.deliveries) (deliveries_read plant sound).0)
-    (passes _ _ (maybe_tables_ok _ _ _ _ _ _ holds.outages refl (rw (length-map plant.outages (outage_made plant)) few.outages) (outages_read plant sound).0) nothing))))))))
+    (passes _ _ (maybe_tables_ok _ _ _ _ _ _ holds.outages refl (rw (length-map plant.outages (outage_made plant)) few.outages) (outages_read plant sound).0) nothing))))
 
 sizes_fields_ok : (plant : Plant) (inside : Members) → Sound plant → Holds plant inside → Pass (fields.fields_tests top_place inside (size_fields true plant.large))
 sizes_fields_ok plant inside sound holds =
     passes _ _ (count_ok _ _ _ _ _ _ holds.version (omega arith) (omega arith))
     (passes _ _ (count_ok _ _ _ _ _ _ holds.periods sound.counts.periods.0 sound.counts.periods.1) nothing)
 
-known_ok : (plant : Plant) → fields.has_unknown (fields.keys_of (size_fields true plant.large ++ array_fields (scope_for plant))) (table_of (plant_entries plant)) ≡ false
+known_ok : (plant : Plant) → fields.has_unknown (fields.keys_of (size_fields true plant.large ++ (named_fields (scope_for plant) ++ referring_fields (scope_for plant)))) (table_of (plant_entries plant)) ≡ false
 unfolding plant_entries key_word
-known_ok plant = all_known (fields.keys_of (size_fields true plant.large ++ array_fields (scope_for plant))) (plant_entries plant) refl
+known_ok plant = all_known (fields.keys_of (size_fields true plant.large ++ (named_fields (scope_for plant) ++ referring_fields (scope_for plant)))) (plant_entries plant) refl
 
 unknown_ok : (plant : Plant) → Sound plant → Pass (unknown_tests (table_of (plant_entries plant)))
 unfolding unknown_tests
@@ -346,7 +363,9 @@ document_ok plant sound =
     let inside = table_of (plant_entries plant) in
     let holds = document_holds plant in
     let sized : Pass (fields.fields_tests top_place inside (size_fields (is_second inside) (is_third inside))) = rw (is_second_document plant inside holds, is_third_document plant inside holds) (sizes_fields_ok plant inside sound holds) in
-    let arrays : Pass (fields.fields_tests top_place inside (array_fields (scope_in inside))) = rw (scope_is plant inside sound holds) (arrays_ok plant inside sound holds) in
+    let named : Pass (fields.fields_tests top_place inside (named_fields (scope_in inside))) = rw (scope_is plant inside sound holds) (named_ok plant inside sound holds) in
+    let lasts : Pass (lasts_tests (scope_in inside) inside) = rw (scope_is plant inside sound holds) (lasts_ok plant inside sound holds) in
+    let referring : Pass (fields.fields_tests top_place inside (referring_fields (scope_in inside))) = rw (scope_is plant inside sound holds) (referring_ok plant inside sound holds) in
     let whole = plant_is plant inside sound holds in
     let counted : Pass (size_tests (plant_in inside)) = rw whole (sizes_ok plant sound) in
-    (passes _ _ (unknown_ok plant sound) (passes _ _ sized (passes _ _ arrays counted)), whole)
+    (passes _ _ (unknown_ok plant sound) (passes _ _ sized (passes _ _ named (passes _ _ lasts (passes _ _ referring counted)))), whole)

@@ -1,13 +1,16 @@
 -- Tables of records are read as the records.
-use Rattle.std.proofs.Common.{◌≡◌, ◌⊎◌, ℕ, pos, suc, ◌+◌, ◌-◌, ◌<◌, ◌≤◌, nat_lt, true, false, cond, not, List, [], length, unsigned_abs, Some, is_some, option_map, IsTrue, refl, sym, ◌∙◌, inl, inr, arith, lt-ltb}
+use Rattle.std.proofs.Common.{◌≡◌, ◌⊎◌, ◌≤ℤ◌, ℕ, pos, negsuc, suc, ◌+◌, ◌-◌, ◌<◌, ◌≤◌, nat_lt, Bool, true, false, cond, not, List, [], length, unsigned_abs, Option, Some, None, is_some, option_map, refl, sym, ◌∙◌, inl, inr, arith, lt-ltb}
+use Rattle.std.specs.Prelude.{IfSome}
 use Rattle.std.proofs.lemmas.Bool.{cases_Bool}
+use Rattle.std.proofs.lemmas.Option.{IfSome_then}
 use Rattle.std.proofs.lemmas.Bool.Decides.{nat_tests}
 use Rattle.std.proofs.lemmas.List.Elements.{recursion_from_All}
-use Rattle.toml.specs.Data.{Members, string, integer}
+use Rattle.toml.specs.Data.{Data, Members, string, integer}
 use Rattle.stn_model.specs.declared.plant.Plant.{Plant}
 use Rattle.stn_model.specs.declared.plant.State.{State}
 use Rattle.stn_model.specs.declared.plant.Utility.{Utility}
 use Rattle.stn_model.specs.declared.plant.StnUnit.{StnUnit}
+use Rattle.stn_model.specs.declared.plant.Last.{Last}
 use Rattle.stn_model.specs.declared.plant.Draw.{Draw}
 use Rattle.stn_model.specs.declared.plant.Run.{Run}
 use Rattle.stn_model.specs.declared.plant.Gap.{Gap}
@@ -15,7 +18,7 @@ use Rattle.stn_model.specs.declared.plant.Receipt.{Receipt}
 use Rattle.stn_model.specs.declared.plant.Delivery.{Delivery}
 use Rattle.stn_model.specs.declared.plant.Outage.{Outage}
 use Rattle.stn_model.specs.Plant.{state_at, utility_at, task_at, unit_at}
-use Rattle.stn_model.specs.Sound.{SoundState, SoundUtility, SoundDraw, SoundRun, SoundGap, SoundReceipt, SoundDelivery, SoundOutage, is_name}
+use Rattle.stn_model.specs.Sound.{SoundState, SoundUtility, SoundLast, SoundUnit, SoundDraw, SoundRun, SoundGap, SoundReceipt, SoundDelivery, SoundOutage}
 use Rattle.plant_text.specs.declared.fault.KeyName.TheVariants as key
 use Rattle.plant_text.specs.declared.fault.TableName.TheVariants as table
 use Rattle.plant_text.specs.declared.find.Key.{Key}
@@ -24,15 +27,16 @@ use Rattle.plant_text.specs.Words.{key_word}
 use Rattle.plant_text.specs.Tests.{first_fault}
 use Rattle.plant_text.specs.Fields.{table_tests, keys_of, held, needed, optional, since}
 use Rattle.plant_text.specs.Scope.{Scope}
-use Rattle.plant_text.specs.Tables.{has_run, run_place, outage_place, state_fields, state_tests, state_of, utility_fields, utility_tests, utility_of, unit_fields, unit_tests, unit_of, run_fields, run_tests, run_more_tests, run_of, gap_fields, gap_tests, gap_of, receipt_fields, receipt_tests, receipt_of, delivery_fields, delivery_tests, delivery_of, outage_fields, outage_tests, outage_more_tests, outage_of, draw_fields, draw_tests, draw_of}
+use Rattle.plant_text.specs.Tables.{has_run, run_place, outage_place, state_fields, state_tests, state_of, utility_fields, utility_tests, utility_of, unit_fields, unit_tests, unit_of, last_tests, run_fields, run_tests, run_more_tests, run_of, gap_fields, gap_tests, gap_of, receipt_fields, receipt_tests, receipt_of, delivery_fields, delivery_tests, delivery_of, outage_fields, outage_tests, outage_more_tests, outage_of, draw_fields, draw_tests, draw_of}
 use Rattle.plant_text.proofs.Faults.{passes, nothing}
 use Rattle.plant_make.specs.Entries.{table_of, number, numbers, some_amounts}
 use Rattle.plant_make.specs.Numbers.{lone, several}
-use Rattle.plant_make.specs.Printed.{made_of, lone_rate, state_name, utility_name, unit_name, task_name, state_entries, utility_entries, unit_entries, run_entries, gap_entries, receipt_entries, delivery_entries, outage_entries, draw_entries}
+use Rattle.plant_make.specs.Printed.{made_of, lone_rate, last_name, until_of, state_name, utility_name, unit_name, task_name, state_entries, utility_entries, unit_entries, run_entries, gap_entries, receipt_entries, delivery_entries, outage_entries, draw_entries}
 use Rattle.plant_make.proofs.Tables.{AreKnown, held_is, held_maybe, held_since, head_ok}
-use Rattle.plant_make.proofs.Passing.{Pass, count_ok, money_ok, name_ok, refers_ok, numbers_ok, numbers_back}
+use Rattle.plant_make.proofs.Passing.{Pass, count_ok, money_ok, name_ok, refers_ok, numbers_ok, numbers_back, one_more}
 use Rattle.plant_make.proofs.Limits.{limits_ok, always_some}
 use Rattle.plant_make.proofs.Rates.{rates_ok}
+use Rattle.plant_make.proofs.Lasts.{mention_ok, moment_ok, last_back, declared}
 
 -- the scope is that of the plant: version 3 where it is large, else 2, its horizon, and its names at their places
 pub record IsScopeOf (plant : Plant) (scope : Scope) : Type 0 where
@@ -106,10 +110,15 @@ outage_ok scope plant place outage reads sound =
       back,
     )
 
-pub gap_ok : (scope : Scope) (plant : Plant) (place : ℕ) (gap : Gap) → IsScopeOf plant scope → SoundGap plant gap
+-- a gap is as long as its version allows
+gap_periods : (third large : Bool) (n : ℕ) → third ≡ large → n ≤ 336 → (large ≡ false → n ≤ 96) → n ≤ cond third 336 96
+gap_periods true large n same most few = most
+gap_periods false large n same most few = few (sym same)
+
+pub gap_ok : (scope : Scope) (plant : Plant) (place : ℕ) (gap : Gap) → IsScopeOf plant scope → SoundGap plant gap → (plant.large ≡ false → gap.periods ≤ 96)
     → Pass (gap_tests scope place (made_of (gap_entries plant gap))) × (gap_of scope (made_of (gap_entries plant gap)) ≡ gap)
 unfolding gap_tests gap_fields gap_of gap_entries key_word
-gap_ok scope plant place gap reads sound =
+gap_ok scope plant place gap reads sound few =
     let es = gap_entries plant gap in
     let inside = table_of es in
     let unit : held inside (needed key.StnUnit) ≡ Some (unit_name plant gap.unit) = held_is (needed key.StnUnit) es _ refl refl in
@@ -125,7 +134,7 @@ gap_ok scope plant place gap reads sound =
           (passes _ _ (refers_ok _ _ _ _ _ _ unit at_unit)
           (passes _ _ (refers_ok _ _ _ _ _ _ from at_from)
           (passes _ _ (refers_ok _ _ _ _ _ _ to at_to)
-          (passes _ _ (count_ok _ _ _ _ _ _ periods low sound.periods)
+          (passes _ _ (count_ok _ _ _ _ _ _ periods low (gap_periods scope.third plant.large gap.periods reads.third sound.periods few))
           (passes _ _ (count_ok _ _ _ _ _ _ cost (omega arith) sound.cost) nothing))))),
       rw (unit, from, to, periods, cost, at_unit, at_from, at_to) refl,
     )
@@ -163,17 +172,72 @@ run_ok scope plant earlier run reads sound alone =
       back,
     )
 
-pub unit_ok : (scope : Scope) (place : ℕ) (unit : StnUnit) → IsTrue (is_name unit.name) → scope.units unit.name ≡ Some place
-    → Pass (unit_tests scope place (made_of (unit_entries unit))) × (unit_of (made_of (unit_entries unit)) ≡ unit)
+-- a unit has no key that the version does not know
+unit_known : (scope : Scope) (place : ℕ) (inside : Members) (plant : Plant) (unit : StnUnit) → (scope.third ≡ false → unit.last ≡ None) → AreKnown (keys_of (unit_fields scope place inside)) (unit_entries plant unit)
+unfolding unit_fields unit_entries key_word
+unit_known scope place inside plant unit few =
+    elim (cases_Bool scope.third) [
+      | inl e ↦ rw e refl
+      | inr e ↦ rw (e, few e) refl
+    ]
+
+-- the key of a task's name is there where a batch held the unit last
+not_alone : (plant : Plant) (last : Option Last) (o : Option Data) → o ≡ last_name plant last → IfSome last (λ batch. not (is_some o) ≡ false)
+not_alone plant None o is = tt
+not_alone plant (Some last) o is = rw is refl
+
+-- what a printed unit holds at the keys of the batch that held it last
+record HoldsLast (scope : Scope) (plant : Plant) (unit : StnUnit) (inside : Members) : Type 0 where
+  last : held inside (since scope.third key.Last) ≡ last_name plant unit.last
+  known : held inside (optional key.Last) ≡ last_name plant unit.last
+  until : held inside (since scope.third key.Until) ≡ until_of unit.last
+
+last_held : (scope : Scope) (plant : Plant) (unit : StnUnit) → (scope.third ≡ false → unit.last ≡ None) → HoldsLast scope plant unit (table_of (unit_entries plant unit))
+unfolding unit_entries key_word
+last_held scope plant unit few =
+    let es = unit_entries plant unit in
+    record {
+      last = held_since scope.third key.Last es (last_name plant unit.last) refl (λ small. rw (few small) refl);
+      known = held_maybe (optional key.Last) es (last_name plant unit.last) refl refl;
+      until = held_since scope.third key.Until es (until_of unit.last) refl (λ small. rw (few small) refl);
+    }
+
+-- the task of a batch that held a unit last is at its place
+last_named : (scope : Scope) (plant : Plant) (unit : StnUnit) → IsScopeOf plant scope → SoundUnit plant unit → IfSome unit.last (λ batch. scope.tasks (task_at plant batch.task).name ≡ Some batch.task)
+last_named scope plant unit reads sound = IfSome_then unit.last sound.last (λ batch is. reads.tasks batch.task is.task)
+
+-- and its end is in its range, where the other key is there
+last_kept : (scope : Scope) (plant : Plant) (alone : Bool) (last : Option Last) → IsScopeOf plant scope → IfSome last (SoundLast plant) → IfSome last (λ batch. alone ≡ false)
+    → IfSome last (λ batch. (alone ≡ false) × (negsuc 95 ≤ℤ batch.until) × (batch.until ≤ℤ pos scope.periods))
+last_kept scope plant alone None reads sound with_other = tt
+last_kept scope plant alone (Some last) reads sound with_other = (with_other, sound.early, rw reads.periods sound.late)
+
+pub unit_ok : (scope : Scope) (plant : Plant) (place : ℕ) (unit : StnUnit) → IsScopeOf plant scope → SoundUnit plant unit → (plant.large ≡ false → unit.last ≡ None) → scope.units unit.name ≡ Some place
+    → Pass (unit_tests scope place (made_of (unit_entries plant unit))) × (unit_of scope (made_of (unit_entries plant unit)) ≡ unit)
 unfolding unit_tests unit_fields unit_of unit_entries key_word
-unit_ok scope place unit good declared =
-    let es = unit_entries unit in
+unit_ok scope plant place unit reads sound few declared =
+    let es = unit_entries plant unit in
     let inside = table_of es in
-    let name : held inside (needed key.Name) ≡ Some (string unit.name) = held_is (needed key.Name) es _ refl refl in (
-      passes _ _ (head_ok _ _ es refl)
-          (passes _ _ (name_ok _ _ _ _ _ _ name good declared) nothing),
-      rw (name) refl,
+    let by_version : scope.third ≡ false → unit.last ≡ None = λ small. few (sym reads.third ∙ small) in
+    let name : held inside (needed key.Name) ≡ Some (string unit.name) = held_is (needed key.Name) es _ refl refl in
+    let holds = last_held scope plant unit by_version in
+    let alone = not (is_some (held inside (optional key.Last))) in
+    let kept = last_kept scope plant alone unit.last reads sound.last (not_alone plant unit.last _ holds.known) in
+    let back = last_back scope.tasks plant unit.last _ _ holds.last holds.until (last_named scope plant unit reads sound) in (
+      passes _ _ (head_ok _ _ es (unit_known scope place inside plant unit by_version))
+          (passes _ _ (name_ok _ _ _ _ _ _ name sound.name declared)
+          (passes _ _ (mention_ok _ (since scope.third key.Last) plant unit.last _ holds.last refl)
+          (passes _ _ (moment_ok _ (since scope.third key.Until) alone (negsuc 95) (pos scope.periods) unit.last _ holds.until refl kept) nothing))),
+      rw (name, back) refl,
     )
+
+-- and its task is declared
+pub last_ok : (scope : Scope) (plant : Plant) (place : ℕ) (unit : StnUnit) → IsScopeOf plant scope → SoundUnit plant unit → (plant.large ≡ false → unit.last ≡ None)
+    → Pass (last_tests scope place (made_of (unit_entries plant unit)))
+unfolding last_tests
+last_ok scope plant place unit reads sound few =
+    let holds = last_held scope plant unit (λ small. few (sym reads.third ∙ small)) in
+    one_more _ _ [] (declared scope.tasks plant unit.last _ holds.last (last_named scope plant unit reads sound)) nothing
 
 -- a utility has no key that the version does not know
 utility_known : (scope : Scope) (place : ℕ) (inside : Members) (utility : Utility) → scope.second ≡ true → (scope.third ≡ false → utility.rates ≡ []) → AreKnown (keys_of (utility_fields scope place inside)) (utility_entries utility)

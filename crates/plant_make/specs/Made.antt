@@ -1,5 +1,5 @@
 -- The plants that are made of a seed: which numbers are taken, and what each one is taken for.
-use Rattle.std.specs.Prelude.{ℕ, zero, suc, pos, ◌+◌, ◌*◌, ◌/◌, ◌%◌, ◌^◌, nat_le, false, if◌then◌else◌, List, [], ◌∷◌, ◌++◌, codes, replicate}
+use Rattle.std.specs.Prelude.{ℕ, zero, suc, pos, ◌+◌, ◌*◌, ◌/◌, ◌%◌, ◌^◌, nat_le, false, None, if◌then◌else◌, List, [], ◌∷◌, ◌++◌, codes, replicate}
 use Rattle.stn_model.specs.declared.plant.Plant.{Plant}
 use Rattle.stn_model.specs.declared.plant.State.{State}
 use Rattle.stn_model.specs.declared.plant.Utility.{Utility}
@@ -81,7 +81,7 @@ runs_of seed chain =
 
 -- a unit
 unfoldable pub units_of : ℕ → List StnUnit
-units_of unit = record { name = letter_name 85 unit } ∷ []
+units_of unit = record { name = letter_name 85 unit; last = None } ∷ []
 
 -- the gaps on a unit: from the first chain's tasks to the second chain's
 unfoldable pub gaps_of : ℕ → List Gap

@@ -1,10 +1,12 @@
 -- What the records of a plant are printed as: the keys of each table, in the order of the field table.
-use Rattle.std.specs.Prelude.{ℕ, ◌==◌, if◌then◌else◌, List, [], ◌∷◌, length, map, Option, Some, None, option_map}
+use Rattle.std.specs.Prelude.{ℕ, pos, ◌==◌, if◌then◌else◌, List, [], ◌∷◌, length, map, Option, Some, None, option_map}
+use Rattle.std.specs.Ordering.{int_eq}
 use Rattle.toml.specs.Data.{Data, string, integer, table}
 use Rattle.stn_model.specs.declared.plant.Plant.{Plant}
 use Rattle.stn_model.specs.declared.plant.State.{State}
 use Rattle.stn_model.specs.declared.plant.Utility.{Utility}
 use Rattle.stn_model.specs.declared.plant.StnUnit.{StnUnit}
+use Rattle.stn_model.specs.declared.plant.Last.{Last}
 use Rattle.stn_model.specs.declared.plant.Task.{Task}
 use Rattle.stn_model.specs.declared.plant.Input.{Input}
 use Rattle.stn_model.specs.declared.plant.Output.{Output}
@@ -58,8 +60,20 @@ utility_entries utility =
     ∷ (key.Rate, lone_rate utility)
     ∷ (key.Rates, some_amounts utility.rates) ∷ []
 
-unfoldable pub unit_entries : StnUnit → List Entry
-unit_entries unit = (key.Name, Some (string unit.name)) ∷ []
+-- the task of the batch that held a unit last
+abbrev pub last_name : Plant → Option Last → Option Data
+last_name plant last = option_map (λ batch. task_name plant batch.task) last
+
+-- the time at which it ends, left out where it is 0
+abbrev pub until_of : Option Last → Option Data
+until_of None = None
+until_of (Some last) = if int_eq last.until (pos 0) then None else Some (integer last.until)
+
+unfoldable pub unit_entries : Plant → StnUnit → List Entry
+unit_entries plant unit =
+    (key.Name, Some (string unit.name))
+    ∷ (key.Last, last_name plant unit.last)
+    ∷ (key.Until, until_of unit.last) ∷ []
 
 unfoldable pub run_entries : Plant → Run → List Entry
 run_entries plant run =
@@ -132,7 +146,7 @@ plant_entries plant =
     ∷ (key.Periods, Some (number plant.periods))
     ∷ (key.State, some_items (map (λ state. made_of (state_entries state)) plant.states))
     ∷ (key.Utility, some_items (map (λ utility. made_of (utility_entries utility)) plant.utilities))
-    ∷ (key.StnUnit, some_items (map (λ unit. made_of (unit_entries unit)) plant.units))
+    ∷ (key.StnUnit, some_items (map (λ unit. made_of (unit_entries plant unit)) plant.units))
     ∷ (key.Task, some_items (map (λ task. made_of (task_entries plant task)) plant.tasks))
     ∷ (key.Run, some_items (map (λ run. made_of (run_entries plant run)) plant.runs))
     ∷ (key.Gap, some_items (map (λ gap. made_of (gap_entries plant gap)) plant.gaps))

@@ -1,12 +1,12 @@
 //! The tables of states, utilities, units, runs, gaps, receipts, deliveries and outages.
-ghost use Rattle.std.specs.Prelude.{◌≡◌, IsTrue};
-ghost use Rattle.stn_model.specs.Sound.{SoundState, SoundUtility, SoundRun, SoundGap, SoundReceipt, SoundDelivery, SoundOutage, is_name};
+ghost use Rattle.std.specs.Prelude.{◌≡◌};
+ghost use Rattle.stn_model.specs.Sound.{SoundState, SoundUtility, SoundUnit, SoundRun, SoundGap, SoundReceipt, SoundDelivery, SoundOutage};
 ghost use Rattle.plant_make.specs.Printed.{state_entries, utility_entries, unit_entries, run_entries, gap_entries, receipt_entries, delivery_entries, outage_entries};
 
-use crate::naming::{put_name, put_state, put_task, put_unit};
+use crate::naming::{put_last, put_name, put_state, put_task, put_unit};
 use crate::rows::Row;
-use crate::table::put;
-use crate::values::{number_value, put_limits, put_rates, short_value};
+use crate::table::{put, put_some};
+use crate::values::{number_value, put_limits, put_rates, short_value, until_value};
 use crate::written::Written;
 use plant_text::KeyName;
 use std::alloc::Global;
@@ -45,13 +45,15 @@ impl Row for Utility {
 }
 
 impl Row for StnUnit {
-    ghost fits = { λ plant quantum unit. IsTrue (is_name unit.name) };
+    ghost fits = { λ plant quantum unit. SoundUnit plant unit };
 
-    ghost entries = { λ plant quantum unit. unit_entries unit };
+    ghost entries = { λ plant quantum unit. unit_entries plant unit };
 
     #[tactic(auto, unfolding(crate::specs::Printed::unit_entries))]
-    fn put_keys(&self, alloc: Global, _plant: &Plant, _quantum: u32, table: &mut Table) -> Written {
-        put_name(alloc, table, KeyName::Name, self.name.as_slice())
+    fn put_keys(&self, alloc: Global, plant: &Plant, _quantum: u32, table: &mut Table) -> Written {
+        put_name(alloc, table, KeyName::Name, self.name.as_slice())?;
+        put_last(alloc, table, plant, self.last)?;
+        put_some(alloc, table, KeyName::Until, until_value(self.last))
     }
 }
 

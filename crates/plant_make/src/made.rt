@@ -56,7 +56,7 @@ fn units(alloc: Global, units: &mut List<StnUnit>) -> Written
 {
     for unit in 0..3 {
         let name = letter_name(alloc, b'U', unit)?;
-        units.push(StnUnit { name })?;
+        units.push(StnUnit { name, last: None })?;
     }
     Ok(())
 }

@@ -1,16 +1,16 @@
 //! Names in tables: of a record itself, and of the things that it names by number.
-ghost use Rattle.std.specs.Prelude.{◌≡◌, ◌<◌, Some, IfOk, OnOk, IsTrue, length};
+ghost use Rattle.std.specs.Prelude.{◌≡◌, ◌<◌, Some, IfSome, IfOk, OnOk, IsTrue, length};
 ghost use Rattle.toml.specs.Data.{string};
 ghost use Rattle.toml.specs.View.{view, table_view};
-ghost use Rattle.stn_model.specs.Sound.{Sound, is_name};
+ghost use Rattle.stn_model.specs.Sound.{Sound, SoundLast, is_name};
 ghost use Rattle.plant_make.specs.Entries.{with_entry};
-ghost use Rattle.plant_make.specs.Printed.{state_name, utility_name, unit_name, task_name};
+ghost use Rattle.plant_make.specs.Printed.{state_name, utility_name, unit_name, task_name, last_name};
 
 use crate::table::put;
 use crate::written::Written;
 use plant_text::KeyName;
 use std::alloc::{AllocError, Global};
-use stn_model::Plant;
+use stn_model::{Last, Plant};
 use toml::{Table, Value};
 
 /// A name as a text.
@@ -76,4 +76,17 @@ pub fn put_task(alloc: Global, table: &mut Table, key: KeyName, plant: &Plant, t
 {
     let name = plant.tasks.get(task as usize).name.as_slice();
     put_name(alloc, table, key, name)
+}
+
+/// Puts the name of the task of the batch that held a unit last, where one did.
+pub fn put_last(alloc: Global, table: &mut Table, plant: &Plant, last: Option<Last>) -> Written
+    requires sound { Sound plant.now }
+    requires there { IfSome last (SoundLast plant.now) }
+    ensures { OnOk result (table_view table.new ≡ with_entry (table_view table.old)
+        (KeyName.Last, last_name plant.now last)) }
+{
+    match last {
+        Some(last) => put_task(alloc, table, KeyName::Last, plant, last.task),
+        None => Ok(()),
+    }
 }

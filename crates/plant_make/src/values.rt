@@ -6,14 +6,14 @@ ghost use Rattle.toml.specs.View.{view, table_view};
 ghost use Rattle.stn_model.specs.Sound.{IsPart};
 ghost use Rattle.plant_make.specs.Entries.{number, numbers, some_amounts, with_entry};
 ghost use Rattle.plant_make.specs.Numbers.{lone, several, part_of};
-ghost use Rattle.plant_make.specs.Printed.{lone_rate, part_text};
+ghost use Rattle.plant_make.specs.Printed.{lone_rate, part_text, until_of};
 
 use crate::table::{put_items, put_some};
 use crate::written::Written;
 use fraction::Fraction;
 use plant_text::KeyName;
 use std::alloc::{AllocError, Global};
-use stn_model::Utility;
+use stn_model::{Last, Utility};
 use toml::{Table, Value};
 
 /// A whole number.
@@ -144,6 +144,22 @@ pub fn put_rates(alloc: Global, table: &mut Table, utility: &Utility) -> Written
     put_some(alloc, table, KeyName::Rate, rate_value(utility))?;
     let rates = amount_values(alloc, utility.rates.as_slice())?;
     put_items(alloc, table, KeyName::Rates, rates)
+}
+
+/// The time at which the batch that held a unit last ends, where there is one and it is not 0.
+pub fn until_value(last: Option<Last>) -> Option<Value>
+    ensures { option_map view result ≡ until_of last }
+{
+    match last {
+        Some(last) => {
+            if last.until == 0 {
+                None
+            } else {
+                Some(Value::Integer(i64::from(last.until)))
+            }
+        }
+        None => None,
+    }
 }
 
 // The part that an amount is of the quantum, in lowest terms.

@@ -59,6 +59,7 @@ part-bounds plant levels part whole root sound own_is root_is =
       base_bounded = whole.base_bounded;
       one_tag = whole.one_tag ∙ sym same;
       costs_bounded = whole.costs_bounded;
+      openings_bounded = whole.openings_bounded;
     }
 
 -- the plant's program with a part's root is a part of the plant's choices

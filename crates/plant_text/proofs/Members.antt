@@ -1,5 +1,5 @@
 -- The members of a table beside the entries of its map.
-use Rattle.std.proofs.Common.{◌≡◌, ◌∙◌, Option, Some, List, [], ◌∷◌, ◌||◌, not, Bool, refl, ap, map, String, Global, string_bytes}
+use Rattle.std.proofs.Common.{◌≡◌, ◌∙◌, Option, Some, None, is_some, false, List, [], ◌∷◌, ◌||◌, not, Bool, refl, ap, map, String, Global, string_bytes}
 use Rattle.std.specs.Option.{unwrap_or}
 use Rattle.std.specs.List.{list_any}
 use Rattle.std.specs.Map.{keys_of}
@@ -24,3 +24,11 @@ list_view (v ∷ vs) = ap (λ ds. view v ∷ ds) (list_view vs)
 
 pub items_at_array : (d : Data) (vs : List Value) → as_array d ≡ Some (items_view vs) → items_of d ≡ map view vs
 items_at_array d vs e = ap (λ (o : Option Items). list_of (unwrap_or o no_items)) e ∙ list_view vs
+
+-- what is no array has no items
+none_in : (o : Option Items) → is_some o ≡ false → list_of (unwrap_or o no_items) ≡ []
+none_in None e = refl
+none_in (Some items) e = absurd cc
+
+pub no_items_in : (d : Data) → is_some (as_array d) ≡ false → items_of d ≡ []
+no_items_in d e = none_in (as_array d) e

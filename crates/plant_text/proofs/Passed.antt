@@ -1,8 +1,9 @@
 -- What tests that pass say of the values that they test.
-use Rattle.std.proofs.Common.{◌≡◌, ℤ, pos, negsuc, ℕ, ◌<◌, ◌≤◌, Bool, true, false, not, List, [], ◌∷◌, ◌++◌, map, length, get_or, AllPairs, Option, Some, None, is_none, option_map, unwrap_or, unsigned_abs, IsTrue, append_assoc, refl, sym, ◌∙◌, arith}
+use Rattle.std.proofs.Common.{◌≡◌, ℤ, pos, negsuc, ℕ, ◌+◌, ◌<◌, ◌≤◌, ◌≤ℤ◌, int_le, Bool, true, false, not, List, [], ◌∷◌, ◌++◌, map, length, get_or, AllPairs, Option, Some, None, is_none, option_map, unwrap_or, unsigned_abs, IsTrue, append_assoc, refl, sym, ◌∙◌, arith}
 use Rattle.std.specs.Option.{option_or}
 use Rattle.std.specs.List.{AllByRecursion}
 use Rattle.std.proofs.lemmas.Bool.{and_parts, eqb-true, leb-true}
+use Rattle.std.proofs.lemmas.Int.{ints}
 use Rattle.std.proofs.lemmas.List.{append-nil, length-map}
 use Rattle.std.proofs.lemmas.List.Quantifiers.{all_pairs_push}
 use Rattle.toml.specs.Data.{Data}
@@ -11,8 +12,8 @@ use Rattle.plant_text.specs.declared.fault.PlantFault.{PlantFault}
 use Rattle.plant_text.specs.declared.fault.Place.{Place}
 use Rattle.plant_text.specs.declared.fault.KeyName.{KeyName}
 use Rattle.plant_text.specs.declared.find.Key.{Key}
-use Rattle.plant_text.specs.Tests.{Test, first_fault, rows_tests}
-use Rattle.plant_text.specs.Fields.{Kind, declares, refers, count, money, numbers, amounts, Places, is_within, is_before, natural, count_of, integer_of, text_of, items_of, numbers_of, amounts_of, place_of, count_tests, money_tests, list_tests, kind_tests, value_tests}
+use Rattle.plant_text.specs.Tests.{Test, first_fault, rows_tests, numbered_tests}
+use Rattle.plant_text.specs.Fields.{Kind, declares, refers, count, money, moment, numbers, amounts, Places, is_within, is_between, is_before, natural, count_of, integer_of, text_of, items_of, numbers_of, amounts_of, place_of, count_tests, money_tests, list_tests, kind_tests, value_tests}
 use Rattle.plant_text.proofs.Faults.{faults_append}
 
 -- no test of the list holds
@@ -37,7 +38,7 @@ pub not_false : (b : Bool) → not b ≡ false → b ≡ true
 not_false true e = refl
 not_false false e = absurd cc
 
-is_there : {X : Type 0} (o : Option X) → is_none o ≡ false → (x : X) × (o ≡ Some x)
+pub is_there : {X : Type 0} (o : Option X) → is_none o ≡ false → (x : X) × (o ≡ Some x)
 is_there None e = absurd cc
 is_there (Some x) e = (x, refl)
 
@@ -80,6 +81,24 @@ unfolding value_tests kind_tests
 money_most place key most None e = omega arith
 money_most place key most (Some d) e = money_passes place key.name most d e
 
+-- a time between two others, which stand before and after 0
+pub record InSpan (low high z : ℤ) : Type 0 where
+  pub early : low ≤ℤ z
+  pub late : z ≤ℤ high
+
+between : (low high z : ℤ) → is_between low high z ≡ true → InSpan low high z
+between low high z e = let p = and_parts (int_le low z) (int_le z high) e in record { early = grind (arith, ints, p.0); late = grind (arith, ints, p.1) }
+
+-- a time that may be absent is within its range
+pub time_within : (place : Place) (key : Key) (alone : Bool) (low high : ℤ) (o : Option Data) → low ≤ℤ pos 0 → pos 0 ≤ℤ high → Pass (value_tests place key (moment alone low high) o)
+    → InSpan low high (unwrap_or (option_map integer_of o) (pos 0))
+unfolding value_tests kind_tests
+time_within place key alone low high None before after e = record { early = before; late = after }
+time_within place key alone low high (Some d) before after e =
+    let a = first_pass _ _ _ e in
+    let b = first_pass _ _ _ a.1 in
+    between low high (integer_of d) (not_false _ b.0)
+
 -- a declared name is a name, and no earlier item has it
 pub name_declared : (place : Place) (key : Key) (places : Places) (number : ℕ) (o : Option Data) → key.required ≡ true → Pass (value_tests place key (declares places number) o)
     → IsTrue (is_name (unwrap_or (option_map text_of o) [])) × (is_before (places (unwrap_or (option_map text_of o) [])) number ≡ false)
@@ -117,6 +136,15 @@ rows_all tests value P each earlier [] e = tt
 rows_all tests value P each earlier (x ∷ xs) e =
     let both = both_pass (tests earlier x) (rows_tests tests value (earlier ++ value x ∷ []) xs) e in
     (each earlier x both.0, rows_all tests value P each (earlier ++ value x ∷ []) xs both.1)
+
+-- the same where each item passes two tests, the second by its number
+pub rows_both : {X Y : Type 0} (tests : List Y → X → List Test) (more : ℕ → X → List Test) (value : X → Y) (P : Y → Type 0) → ((earlier : List Y) (number : ℕ) (x : X) → Pass (tests earlier x) → Pass (more number x) → P (value x))
+    → (earlier : List Y) (number : ℕ) (xs : List X) → Pass (rows_tests tests value earlier xs) → Pass (numbered_tests more number xs) → AllByRecursion P (map value xs)
+rows_both tests more value P each earlier number [] e f = tt
+rows_both tests more value P each earlier number (x ∷ xs) e f =
+    let first = both_pass (tests earlier x) (rows_tests tests value (earlier ++ value x ∷ []) xs) e in
+    let second = both_pass (more number x) (numbered_tests more (number + 1) xs) f in
+    (each earlier number x first.0 second.0, rows_both tests more value P each (earlier ++ value x ∷ []) (number + 1) xs first.1 second.1)
 
 -- items that pass one by one, after those before them, pass in pairs
 pub rows_pairs : {X Y : Type 0} (tests : List Y → X → List Test) (value : X → Y) (R : Y → Y → Type 0)

@@ -4,7 +4,7 @@ use Rattle.std.specs.Option.{option_or}
 use Rattle.std.proofs.lemmas.List.{drop_more, drop_all, take_all, map_more, map_push}
 use Rattle.plant_text.specs.declared.fault.PlantStop.{PlantStop}
 use Rattle.plant_text.specs.declared.fault.PlantStop.TheVariants as stop
-use Rattle.plant_text.specs.Tests.{Test, first_fault, Stops, rows_tests}
+use Rattle.plant_text.specs.Tests.{Test, first_fault, Stops, rows_tests, numbered_tests}
 use Rattle.plant_text.proofs.Faults.{faults_append}
 
 -- the tests of the items that are left are the rest of all, after the values of those before them
@@ -47,3 +47,27 @@ module _ {V X Y : Type 0} (see : V → X) (tests : List Y → X → List Test) (
   -- the start of a loop over the items
   pub loop_start : (vs : List V) → IsAt see tests value vs 0 []
   loop_start vs = record { faults = refl; values = refl }
+
+-- the tests of the items that are left, by their numbers, are the rest of all
+abbrev pub IsNumbered : {V X : Type 0} → (V → X) → (ℕ → X → List Test) → List V → ℕ → Type 0
+IsNumbered see tests vs i = first_fault (numbered_tests tests i (map see (drop i vs))) ≡ first_fault (numbered_tests tests 0 (map see vs))
+
+module _ {V X : Type 0} (see : V → X) (tests : ℕ → X → List Test) (vs : List V) (i : ℕ) (v : V) (lt : i < length vs) (is : v ≡ get_or vs i v) (at : IsNumbered see tests vs i) where
+  numbered_next : option_or (first_fault (tests i (see v))) (first_fault (numbered_tests tests (i + 1) (map see (drop (i + 1) vs)))) ≡ first_fault (numbered_tests tests 0 (map see vs))
+  numbered_next =
+      let left : map see (drop i vs) ≡ see v ∷ map see (drop (i + 1) vs) = rw (drop_more vs i v lt) (rw (← is) refl) in
+      sym (faults_append (tests i (see v)) (numbered_tests tests (i + 1) (map see (drop (i + 1) vs)))) ∙ (rw left at at)
+
+  -- a step of a loop over them
+  pub numbered_on : first_fault (tests i (see v)) ≡ None → IsNumbered see tests vs (i + 1)
+  numbered_on passes = rw passes at numbered_next
+
+  -- an exit of it
+  pub numbered_err : (e : PlantStop) → Stops e (first_fault (tests i (see v))) → Stops e (first_fault (numbered_tests tests 0 (map see vs)))
+  numbered_err stop.Memory h = tt
+  numbered_err (stop.Fault f) h = sym numbered_next ∙ rw h refl
+
+-- and its end
+pub numbered_end : {V X : Type 0} (see : V → X) (tests : ℕ → X → List Test) (vs : List V) (i : ℕ) → length vs ≤ i → IsNumbered see tests vs i → first_fault (numbered_tests tests 0 (map see vs)) ≡ None
+unfolding first_fault
+numbered_end see tests vs i le at = sym at ∙ rw (drop_all i vs le) refl

@@ -1,19 +1,24 @@
 -- Items whose tests pass are sound.
-use Rattle.std.proofs.Common.{◌≡◌, ℕ, ℤ, pos, zero, suc, ◌+◌, ◌≤◌, ◌⊎◌, Bool, not, List, [], length, Option, Some, None, is_some, option_map, unwrap_or, unsigned_abs, IsTrue, replicate, refl, ◌∙◌, inl, inr, arith}
+use Rattle.std.proofs.Common.{◌≡◌, ℕ, ℤ, pos, negsuc, zero, suc, ◌+◌, ◌≤◌, ◌⊎◌, Bool, false, cond, not, List, [], length, Option, Some, None, is_some, option_map, unwrap_or, unsigned_abs, replicate, refl, ◌∙◌, inl, inr, arith}
+use Rattle.std.specs.Prelude.{IfSome}
 use Rattle.std.specs.List.{AllByRecursion}
 use Rattle.std.proofs.lemmas.Bool.{ltb-true, ltb-false}
+use Rattle.std.proofs.lemmas.Int.{ints}
 use Rattle.std.proofs.lemmas.List.{length-replicate}
 use Rattle.std.proofs.lemmas.List.Elements.{All-from_recursion}
 use Rattle.toml.specs.Data.{Data}
 use Rattle.stn_model.specs.declared.plant.Plant.{Plant}
+use Rattle.stn_model.specs.declared.plant.Last.{Last}
 use Rattle.stn_model.specs.declared.plant.Run.{Run}
-use Rattle.stn_model.specs.Sound.{SoundState, SoundUtility, SoundRun, SoundGap, SoundReceipt, SoundDelivery, SoundOutage, is_name}
+use Rattle.stn_model.specs.Sound.{SoundState, SoundUtility, SoundLast, SoundUnit, SoundRun, SoundGap, SoundReceipt, SoundDelivery, SoundOutage}
 use Rattle.plant_text.specs.declared.fault.Place.{Place}
 use Rattle.plant_text.specs.declared.find.Key.{Key}
-use Rattle.plant_text.specs.Fields.{count, numbers, amounts, count_of, integer_of, numbers_of, amounts_of, value_tests}
+use Rattle.plant_text.specs.declared.fault.KeyName.TheVariants as key
+use Rattle.plant_text.specs.Fields.{held, members_of, since, count, moment, numbers, amounts, count_of, integer_of, numbers_of, amounts_of, text_of, place_of, value_tests}
 use Rattle.plant_text.specs.Scope.{Scope}
-use Rattle.plant_text.specs.Tables.{limits_in, state_fields, state_tests, state_of, utility_fields, utility_tests, utility_of, unit_fields, unit_tests, unit_of, run_fields, run_tests, run_more_tests, run_of, gap_fields, gap_tests, gap_of, receipt_fields, receipt_tests, receipt_of, delivery_fields, delivery_tests, delivery_of, outage_fields, outage_tests, outage_more_tests, outage_of}
-use Rattle.plant_text.proofs.Passed.{Pass, Below, AreNumbers, first_pass, both_pass, count_needed, count_most, money_most, name_declared, refers_below, numbers_there, amounts_there, not_false, absent}
+use Rattle.plant_text.specs.Tables.{limits_in, state_fields, state_tests, state_of, utility_fields, utility_tests, utility_of, unit_fields, is_there as is_there_at, unit_place, unit_tests, unit_of, is_stray, last_tests, run_fields, run_tests, run_more_tests, run_of, gap_fields, gap_tests, gap_of, receipt_fields, receipt_tests, receipt_of, delivery_fields, delivery_tests, delivery_of, outage_fields, outage_tests, outage_more_tests, outage_of}
+use Rattle.plant_text.proofs.Limits.{under, few_of}
+use Rattle.plant_text.proofs.Passed.{Pass, Below, AreNumbers, first_pass, both_pass, count_needed, count_most, money_most, time_within, is_there, name_declared, refers_below, numbers_there, amounts_there, tested, not_false, absent}
 
 -- a number that is repeated is at most the bound that it keeps
 all_repeated : (most n : ℕ) → n ≤ most → (many : ℕ) → AllByRecursion (λ k. k ≤ most) (replicate many n)
@@ -92,12 +97,35 @@ utility_sound scope number d e =
       each_rate = All-from_recursion (λ (z : ℤ). unsigned_abs z ≤ 1000000) _ paid.1;
     }
 
-pub unit_sound : (scope : Scope) (number : ℕ) (d : Data) → Pass (unit_tests scope number d) → IsTrue (is_name (unit_of d).name)
-unfolding unit_tests unit_fields unit_of
-unit_sound scope number d e =
+-- the batch that held a unit last: its task is declared, and its end is in its range
+last_sound : (scope : Scope) (plant : Plant) (place : Place) (key : Key) (alone : Bool) (name ends : Option Data) → Below (length plant.tasks) scope.tasks → plant.periods ≡ scope.periods
+    → is_stray scope.tasks name ≡ false → Pass (value_tests place key (moment alone (negsuc 95) (pos scope.periods)) ends)
+    → IfSome (option_map (λ (number : ℕ). let last : Last = record { task = number; until = unwrap_or (option_map integer_of ends) (pos 0) } in last) (option_map (place_of scope.tasks) name)) (SoundLast plant)
+last_sound scope plant place key alone None ends tasks horizon declared e = tt
+last_sound scope plant place key alone (Some d) ends tasks horizon declared e =
+    let k = is_there (scope.tasks (text_of d)) declared in
+    let span = time_within place key alone (negsuc 95) (pos scope.periods) ends (omega (arith, ints)) (omega (arith, ints)) e in
+    record { task = rw k.1 (tasks (text_of d) k.0 k.1); early = span.early; late = rw horizon span.late }
+
+pub unit_sound : (scope : Scope) (plant : Plant) → Below (length plant.tasks) scope.tasks → plant.periods ≡ scope.periods
+    → (number place : ℕ) (d : Data) → Pass (unit_tests scope number d) → Pass (last_tests scope place d) → SoundUnit plant (unit_of scope d)
+unfolding unit_tests unit_fields unit_of last_tests
+unit_sound scope plant tasks horizon number place d e f =
     let head = both_pass _ _ e in
     let name = both_pass _ _ head.1 in
-    (name_declared _ _ _ _ _ refl name.0).0
+    let last = both_pass _ _ name.1 in
+    let word = tested _ _ _ _ last.0 in
+    let until = both_pass _ _ last.1 in
+    let declared = first_pass _ _ _ f in
+    record {
+      name = (name_declared _ _ _ _ _ refl name.0).0;
+      last = last_sound scope plant (unit_place number) (since scope.third key.Until) (not (is_there_at (members_of d) key.Last)) (held (members_of d) (since scope.third key.Last)) (held (members_of d) (since scope.third key.Until)) tasks horizon declared.0 until.0;
+    }
+
+-- a unit of a file that is not of version 3 was held by no batch
+pub no_last : (scope : Scope) → scope.third ≡ false → (d : Data) → (unit_of scope d).last ≡ None
+unfolding unit_of
+no_last scope not_third d = rw not_third refl
 
 pub run_sound : (scope : Scope) (plant : Plant) → Below (length plant.tasks) scope.tasks → Below (length plant.units) scope.units
     → (earlier : List Run) (d : Data) → Pass (run_tests scope earlier d) → SoundRun plant (run_of scope d)
@@ -120,6 +148,23 @@ run_sound scope plant tasks units earlier d e =
       cost = money_most _ _ _ _ cost.0;
     }
 
+-- a gap is as long as its version allows
+gap_periods : (scope : Scope) (number : ℕ) (d : Data) → Pass (gap_tests scope number d) → (gap_of scope d).periods ≤ cond scope.third 336 96
+unfolding gap_tests gap_fields gap_of
+gap_periods scope number d e =
+    let head = both_pass _ _ e in
+    let unit = both_pass _ _ head.1 in
+    let on = tested _ _ _ _ unit.0 in
+    let from = both_pass _ _ unit.1 in
+    let before = tested _ _ _ _ from.0 in
+    let to = both_pass _ _ from.1 in
+    let after = tested _ _ _ _ to.0 in
+    let periods = both_pass _ _ to.1 in
+    (count_needed _ _ _ _ _ refl periods.0).1
+
+pub gap_short : (scope : Scope) → scope.third ≡ false → (number : ℕ) (d : Data) → Pass (gap_tests scope number d) → (gap_of scope d).periods ≤ 96
+gap_short scope not_third number d e = few_of scope.third 96 336 _ not_third (gap_periods scope number d e)
+
 pub gap_sound : (scope : Scope) (plant : Plant) → Below (length plant.tasks) scope.tasks → Below (length plant.units) scope.units
     → (number : ℕ) (d : Data) → Pass (gap_tests scope number d) → SoundGap plant (gap_of scope d)
 unfolding gap_tests gap_fields gap_of
@@ -134,7 +179,7 @@ gap_sound scope plant tasks units number d e =
       unit = refers_below _ _ _ _ _ refl units unit.0;
       from = refers_below _ _ _ _ _ refl tasks from.0;
       to = refers_below _ _ _ _ _ refl tasks to.0;
-      periods = (count_needed _ _ _ _ _ refl periods.0).1;
+      periods = under scope.third 96 336 _ (omega arith) (count_needed _ _ _ _ _ refl periods.0).1;
       cost = count_most _ _ _ _ cost.0;
     }
 

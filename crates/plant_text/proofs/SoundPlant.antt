@@ -1,5 +1,5 @@
 -- A document whose tests pass has a sound plant.
-use Rattle.std.proofs.Common.{◌≡◌, ◌≢◌, ℕ, zero, suc, ◌+◌, ◌<◌, ◌≤◌, Bool, true, false, cond, eqb, ◌&&◌, List, [], ◌∷◌, ◌++◌, map, take, length, get_or, AllPairs, Result, Ok, Err, Some, unwrap_or, IsTrue, refl, sym, ap, ◌∙◌, inl, inr, append_assoc, arith}
+use Rattle.std.proofs.Common.{◌≡◌, ◌≢◌, ℕ, zero, suc, ◌+◌, ◌<◌, ◌≤◌, Bool, true, false, cond, eqb, ◌&&◌, List, [], ◌∷◌, ◌++◌, map, take, length, get_or, AllPairs, Result, Ok, Err, Some, None, unwrap_or, refl, sym, ap, ◌∙◌, inl, inr, append_assoc, arith}
 use Rattle.std.specs.List.{AllByRecursion, position_from}
 use Rattle.std.specs.Str.{bytes_eq}
 use Rattle.std.proofs.lemmas.Bool.{cases_Bool, ltb-false, lt-ltb, or_parts, and_from, eq-eqb}
@@ -23,17 +23,18 @@ use Rattle.stn_model.specs.declared.plant.Utility.{Utility}
 use Rattle.stn_model.specs.declared.plant.StnUnit.{StnUnit}
 use Rattle.stn_model.specs.declared.plant.Task.{Task}
 use Rattle.stn_model.specs.declared.plant.Run.{Run}
-use Rattle.stn_model.specs.Sound.{SoundState, SoundUtility, SoundTask, SoundRun, SoundGap, SoundReceipt, SoundDelivery, SoundOutage, is_name}
+use Rattle.stn_model.specs.declared.plant.Gap.{Gap}
+use Rattle.stn_model.specs.Sound.{SoundState, SoundUtility, SoundUnit, SoundTask, SoundRun, SoundGap, SoundReceipt, SoundDelivery, SoundOutage}
 use Rattle.plant_text.specs.declared.fault.KeyName.TheVariants as key
 use Rattle.plant_text.specs.Fields.{fields_tests, value_tests, count, count_of, at_key, held, items_at, needed, optional, since}
 use Rattle.plant_text.specs.Scope.{Scope}
-use Rattle.plant_text.specs.Tables.{state_fields, state_tests, state_of, utility_fields, utility_tests, utility_of, unit_fields, unit_tests, unit_of, task_fields, task_tests, task_of, has_run, run_tests, run_more_tests, run_of, gap_of, receipt_of, delivery_of, outage_of}
-use Rattle.plant_text.specs.Document.{top_place, version_of, is_second, is_third, scope_in, size_fields, array_fields, plant_with, plant_in, size_tests, unknown_tests, document_tests, document_of, plant_tests, plant_of}
-use Rattle.plant_text.proofs.SoundItems.{state_sound, utility_sound, unit_sound, run_sound, gap_sound, receipt_sound, delivery_sound, outage_sound}
+use Rattle.plant_text.specs.Tables.{state_fields, state_tests, state_of, utility_fields, utility_tests, utility_of, unit_fields, unit_tests, unit_of, last_tests, task_fields, task_tests, task_of, has_run, run_tests, run_more_tests, run_of, gap_of, receipt_of, delivery_of, outage_of}
+use Rattle.plant_text.specs.Document.{top_place, version_of, is_second, is_third, scope_in, size_fields, named_fields, referring_fields, lasts_tests, plant_with, plant_in, size_tests, unknown_tests, document_tests, document_of, plant_tests, plant_of}
+use Rattle.plant_text.proofs.SoundItems.{state_sound, utility_sound, unit_sound, no_last, run_sound, gap_short, gap_sound, receipt_sound, delivery_sound, outage_sound}
 use Rattle.plant_text.proofs.Faults.{nothing}
 use Rattle.plant_text.proofs.Limits.{under, few_of}
 use Rattle.plant_text.proofs.SoundTasks.{tables_passes, task_sound}
-use Rattle.plant_text.proofs.Passed.{Pass, Below, first_pass, both_pass, count_needed, name_declared, rows_all, rows_pairs}
+use Rattle.plant_text.proofs.Passed.{Pass, Below, first_pass, both_pass, count_needed, name_declared, rows_all, rows_both, rows_pairs}
 
 some_same : (a b : ℕ) → Some a ≡ Some b → a ≡ b
 some_same a b e = cc
@@ -126,7 +127,7 @@ utility_fresh scope number d e =
     let name = both_pass _ _ head.1 in
     (name_declared _ _ _ _ _ refl name.0).1
 
-unit_fresh : (scope : Scope) (number : ℕ) (d : Data) → Pass (unit_tests scope number d) → is_before (scope.units (unit_of d).name) number ≡ false
+unit_fresh : (scope : Scope) (number : ℕ) (d : Data) → Pass (unit_tests scope number d) → is_before (scope.units (unit_of scope d).name) number ≡ false
 unfolding unit_tests unit_fields unit_of
 unit_fresh scope number d e =
     let head = both_pass _ _ e in
@@ -155,9 +156,9 @@ utility_names : (scope : Scope) → name_in ≡ (λ d. (utility_of scope d).name
 unfolding utility_of
 utility_names scope = refl
 
-unit_names : name_in ≡ (λ d. (unit_of d).name)
+unit_names : (scope : Scope) → name_in ≡ (λ d. (unit_of scope d).name)
 unfolding unit_of
-unit_names = refl
+unit_names scope = refl
 
 task_names : (scope : Scope) → name_in ≡ (λ d. (task_of scope d).name)
 unfolding task_of
@@ -168,6 +169,11 @@ no_rates : (scope : Scope) → scope.third ≡ false → (ds : List Data) → Al
 unfolding utility_of
 no_rates scope not_third [] = tt
 no_rates scope not_third (d ∷ ds) = (rw not_third refl, no_rates scope not_third ds)
+
+-- nor was a unit of such a file held by a batch before
+no_lasts : (scope : Scope) → scope.third ≡ false → (ds : List Data) → AllByRecursion (λ (u : StnUnit). u.last ≡ None) (map (unit_of scope) ds)
+no_lasts scope not_third [] = tt
+no_lasts scope not_third (d ∷ ds) = (no_last scope not_third d, no_lasts scope not_third ds)
 
 within_either : (second : Bool) (n : ℕ) → Within 1 (cond second 336 96) n → Within 1 336 n
 within_either true n h = h
@@ -180,21 +186,23 @@ plant_sound document e =
     let plant = plant_in document in
     let known = both_pass (unknown_tests document) _ e in
     let sizes = both_pass (fields_tests top_place document (size_fields (is_second document) (is_third document))) _ known.1 in
-    let arrays = both_pass (fields_tests top_place document (array_fields scope)) (size_tests plant) sizes.1 in
+    let named = both_pass (fields_tests top_place document (named_fields scope)) _ sizes.1 in
+    let lasts = both_pass (lasts_tests scope document) _ named.1 in
+    let referring = both_pass (fields_tests top_place document (referring_fields scope)) (size_tests plant) lasts.1 in
     let number = version_of (is_second document) (is_third document) in
     let most = cond (is_second document) 336 96 in
     let version = both_pass (value_tests top_place (needed key.Version) (count number number) (held document (needed key.Version))) (value_tests top_place (needed key.Periods) (count 1 most) (held document (needed key.Periods)) ++ []) sizes.0 in
     let periods = both_pass (value_tests top_place (needed key.Periods) (count 1 most) (held document (needed key.Periods))) [] version.1 in
-    let state = both_pass _ _ arrays.0 in
+    let state = both_pass _ _ named.0 in
     let utility = both_pass _ _ state.1 in
     let unit = both_pass _ _ utility.1 in
     let task = both_pass _ _ unit.1 in
-    let run = both_pass _ _ task.1 in
+    let run = both_pass _ _ referring.0 in
     let gap = both_pass _ _ run.1 in
     let receipt = both_pass _ _ gap.1 in
     let delivery = both_pass _ _ receipt.1 in
     let outage = both_pass _ _ delivery.1 in
-    let slots = first_pass _ _ _ arrays.1 in
+    let slots = first_pass _ _ _ referring.1 in
     let pairs = first_pass _ _ _ slots.1 in
     let states = tables_passes _ _ _ _ _ nothing state.0 in
     let utilities = tables_passes _ _ _ _ _ nothing utility.0 in
@@ -208,7 +216,7 @@ plant_sound document e =
     let third = is_third document in
     let state_count = length-map (items_at document (optional key.State)) (state_of scope) in
     let utility_count = length-map (items_at document (optional key.Utility)) (utility_of scope) in
-    let unit_count = length-map (items_at document (optional key.StnUnit)) unit_of in
+    let unit_count = length-map (items_at document (optional key.StnUnit)) (unit_of scope) in
     let task_count = length-map (items_at document (optional key.Task)) (task_of scope) in
     let run_count = length-map (items_at document (optional key.Run)) (run_of scope) in
     let gap_count = length-map (items_at document (optional key.Gap)) (gap_of scope) in
@@ -220,7 +228,7 @@ plant_sound document e =
     let pairs_few = ltb-false _ _ pairs.0 in
     let to_states = names_below (λ (s : State). s.name) (state_of scope) (state_names scope) (items_at document (optional key.State)) (cond third 160 40) states.few in
     let to_utilities = names_below (λ (u : Utility). u.name) (utility_of scope) (utility_names scope) (items_at document (optional key.Utility)) (cond third 64 8) utilities.few in
-    let to_units = names_below (λ (u : StnUnit). u.name) unit_of unit_names (items_at document (optional key.StnUnit)) (cond third 96 24) units.few in
+    let to_units = names_below (λ (u : StnUnit). u.name) (unit_of scope) (unit_names scope) (items_at document (optional key.StnUnit)) (cond third 96 24) units.few in
     let to_tasks = names_below (λ (t : Task). t.name) (task_of scope) (task_names scope) (items_at document (optional key.Task)) (cond third 160 40) tasks.few in
     record {
       counts = record {
@@ -249,17 +257,19 @@ plant_sound document e =
         slots = few_of third 512 4096 _ not_third slots_few;
         gap_pairs = few_of third 8192 32768 _ not_third pairs_few;
         rates = All-from_recursion (λ (u : Utility). u.rates ≡ []) _ (no_rates scope not_third _);
+        gaps = All-from_recursion (λ (g : Gap). g.periods ≤ 96) _ (rows_all _ (gap_of scope) (λ (g : Gap). g.periods ≤ 96) (λ earlier d h. gap_short scope not_third (length earlier) d h) [] _ gaps.pass);
+        lasts = All-from_recursion (λ (u : StnUnit). u.last ≡ None) _ (no_lasts scope not_third _);
       };
       names = record {
         states = names_own (λ (s : State). s.name) (state_of scope) (state_names scope) (λ earlier d. state_tests scope (length earlier) d) _ (cond third 160 40) states.few (λ earlier d h. state_fresh scope (length earlier) d h) states.pass;
         utilities = names_own (λ (u : Utility). u.name) (utility_of scope) (utility_names scope) (λ earlier d. utility_tests scope (length earlier) d) _ (cond third 64 8) utilities.few (λ earlier d h. utility_fresh scope (length earlier) d h) utilities.pass;
-        units = names_own (λ (u : StnUnit). u.name) unit_of unit_names (λ earlier d. unit_tests scope (length earlier) d) _ (cond third 96 24) units.few (λ earlier d h. unit_fresh scope (length earlier) d h) units.pass;
+        units = names_own (λ (u : StnUnit). u.name) (unit_of scope) (unit_names scope) (λ earlier d. unit_tests scope (length earlier) d) _ (cond third 96 24) units.few (λ earlier d h. unit_fresh scope (length earlier) d h) units.pass;
         tasks = names_own (λ (t : Task). t.name) (task_of scope) (task_names scope) (λ earlier d. task_tests scope (length earlier) d) _ (cond third 160 40) tasks.few (λ earlier d h. task_fresh scope (length earlier) d h) tasks.pass;
         runs = rows_pairs (run_tests scope) (run_of scope) (λ a b. a.task ≡ b.task → a.unit ≢ b.unit) (λ earlier d h k x lt. not_found earlier (run_of scope d) (run_fresh scope earlier d h) k x lt) [] _ (λ i j d lt within. absurd (omega arith)) runs.pass;
       };
       states = All-from_recursion (SoundState _) _ (rows_all _ (state_of scope) (SoundState _) (λ earlier d h. state_sound scope (length earlier) d h) [] _ states.pass);
       utilities = All-from_recursion (SoundUtility _) _ (rows_all _ (utility_of scope) (SoundUtility _) (λ earlier d h. utility_sound scope (length earlier) d h) [] _ utilities.pass);
-      units = All-from_recursion (λ (u : StnUnit). IsTrue (is_name u.name)) _ (rows_all _ unit_of (λ (u : StnUnit). IsTrue (is_name u.name)) (λ earlier d h. unit_sound scope (length earlier) d h) [] _ units.pass);
+      units = All-from_recursion (SoundUnit plant) _ (rows_both _ (last_tests scope) (unit_of scope) (SoundUnit plant) (λ earlier place d h told. unit_sound scope plant to_tasks refl (length earlier) place d h told) [] 0 _ units.pass lasts.0);
       tasks = All-from_recursion (SoundTask plant) _ (rows_all _ (task_of scope) (SoundTask plant) (λ earlier d h. task_sound scope plant (length earlier) d to_states to_utilities h) [] _ tasks.pass);
       runs = All-from_recursion (SoundRun plant) _ (rows_all _ (run_of scope) (SoundRun plant) (λ earlier d h. run_sound scope plant to_tasks to_units earlier d h) [] _ runs.pass);
       gaps = All-from_recursion (SoundGap plant) _ (rows_all _ (gap_of scope) (SoundGap plant) (λ earlier d h. gap_sound scope plant to_tasks to_units (length earlier) d h) [] _ gaps.pass);

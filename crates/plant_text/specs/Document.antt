@@ -20,11 +20,11 @@ use Rattle.plant_text.specs.declared.fault.Place.{Place}
 use Rattle.plant_text.specs.declared.fault.TableName.TheVariants as table
 use Rattle.plant_text.specs.declared.fault.KeyName.{KeyName}
 use Rattle.plant_text.specs.declared.fault.KeyName.TheVariants as key
-use Rattle.plant_text.specs.Tests.{Test, rows_tests}
+use Rattle.plant_text.specs.Tests.{Test, rows_tests, numbered_tests}
 use Rattle.plant_text.specs.Fields.{fault, Field, row, needed, optional, since, count, tables, at_key, count_of, items_at, has_unknown, keys_of, fields_tests, Places}
 use Rattle.plant_text.specs.Names.{name_in, first_places}
 use Rattle.plant_text.specs.Scope.{Scope}
-use Rattle.plant_text.specs.Tables.{state_tests, state_of, utility_tests, utility_of, unit_tests, unit_of, task_tests, task_of, run_tests, run_of, gap_tests, gap_of, receipt_tests, receipt_of, delivery_tests, delivery_of, outage_tests, outage_of}
+use Rattle.plant_text.specs.Tables.{state_tests, state_of, utility_tests, utility_of, unit_tests, unit_of, last_tests, task_tests, task_of, run_tests, run_of, gap_tests, gap_of, receipt_tests, receipt_of, delivery_tests, delivery_of, outage_tests, outage_of}
 
 -- the whole file
 abbrev pub top_place : Place
@@ -62,23 +62,51 @@ scope_in document = record {
 abbrev pub version_of : Bool → Bool → ℕ
 version_of second third = if third then 3 else (if second then 2 else 1)
 
--- the keys at the top: the version and the horizon, then the arrays
+-- the keys at the top: the version and the horizon
 abbrev pub size_fields : Bool → Bool → List Field
 size_fields second third =
     row (needed key.Version) (count (version_of second third) (version_of second third))
     ∷ row (needed key.Periods) (count 1 (if second then 336 else 96)) ∷ []
 
-abbrev pub array_fields : Scope → List Field
-array_fields scope =
+-- then the arrays of what has a name
+abbrev pub named_fields : Scope → List Field
+named_fields scope =
     row (optional key.State) (tables (if scope.third then 160 else 40) (rows_tests (λ (earlier : List State) (d : Data). state_tests scope (length earlier) d) (state_of scope) []))
     ∷ row (optional key.Utility) (tables (if scope.third then 64 else 8) (rows_tests (λ (earlier : List Utility) (d : Data). utility_tests scope (length earlier) d) (utility_of scope) []))
-    ∷ row (optional key.StnUnit) (tables (if scope.third then 96 else 24) (rows_tests (λ (earlier : List StnUnit) (d : Data). unit_tests scope (length earlier) d) unit_of []))
-    ∷ row (optional key.Task) (tables (if scope.third then 160 else 40) (rows_tests (λ (earlier : List Task) (d : Data). task_tests scope (length earlier) d) (task_of scope) []))
-    ∷ row (optional key.Run) (tables (if scope.third then 256 else 64) (rows_tests (λ (earlier : List Run) (d : Data). run_tests scope earlier d) (run_of scope) []))
+    ∷ row (optional key.StnUnit) (tables (if scope.third then 96 else 24) (rows_tests (λ (earlier : List StnUnit) (d : Data). unit_tests scope (length earlier) d) (unit_of scope) []))
+    ∷ row (optional key.Task) (tables (if scope.third then 160 else 40) (rows_tests (λ (earlier : List Task) (d : Data). task_tests scope (length earlier) d) (task_of scope) [])) ∷ []
+
+-- and those whose items refer to names alone
+abbrev pub referring_fields : Scope → List Field
+referring_fields scope =
+    row (optional key.Run) (tables (if scope.third then 256 else 64) (rows_tests (λ (earlier : List Run) (d : Data). run_tests scope earlier d) (run_of scope) []))
     ∷ row (optional key.Gap) (tables 4096 (rows_tests (λ (earlier : List Gap) (d : Data). gap_tests scope (length earlier) d) (gap_of scope) []))
     ∷ row (optional key.Receipt) (tables (if scope.third then 900 else 256) (rows_tests (λ (earlier : List Receipt) (d : Data). receipt_tests scope (length earlier) d) (receipt_of scope) []))
     ∷ row (optional key.Delivery) (tables (if scope.third then 900 else 256) (rows_tests (λ (earlier : List Delivery) (d : Data). delivery_tests scope (length earlier) d) (delivery_of scope) []))
     ∷ row (since scope.second key.Outage) (tables (if scope.third then 4096 else 256) (rows_tests (λ (earlier : List Outage) (d : Data). outage_tests scope (length earlier) d) (outage_of scope) [])) ∷ []
+
+-- between them: the task of each batch that held a unit last is declared
+abbrev pub lasts_tests : Scope → Members → List Test
+lasts_tests scope document = numbered_tests (last_tests scope) 0 (items_at document (optional key.StnUnit))
+
+-- the plant with the document's states, utilities, units and tasks
+abbrev pub with_named : Scope → Members → Plant → Plant
+with_named scope document plant = record plant {
+  states = map (state_of scope) (items_at document (optional key.State));
+  utilities = map (utility_of scope) (items_at document (optional key.Utility));
+  units = map (unit_of scope) (items_at document (optional key.StnUnit));
+  tasks = map (task_of scope) (items_at document (optional key.Task));
+}
+
+-- the plant with the document's runs, gaps, receipts, deliveries and outages
+abbrev pub with_referring : Scope → Members → Plant → Plant
+with_referring scope document plant = record plant {
+  runs = map (run_of scope) (items_at document (optional key.Run));
+  gaps = map (gap_of scope) (items_at document (optional key.Gap));
+  receipts = map (receipt_of scope) (items_at document (optional key.Receipt));
+  deliveries = map (delivery_of scope) (items_at document (optional key.Delivery));
+  outages = map (outage_of scope) (items_at document (since scope.second key.Outage));
+}
 
 -- the plant of a document, read against a scope
 unfoldable pub plant_with : Scope → Members → Plant
@@ -87,7 +115,7 @@ plant_with scope document = record {
   periods = scope.periods;
   states = map (state_of scope) (items_at document (optional key.State));
   utilities = map (utility_of scope) (items_at document (optional key.Utility));
-  units = map unit_of (items_at document (optional key.StnUnit));
+  units = map (unit_of scope) (items_at document (optional key.StnUnit));
   tasks = map (task_of scope) (items_at document (optional key.Task));
   runs = map (run_of scope) (items_at document (optional key.Run));
   gaps = map (gap_of scope) (items_at document (optional key.Gap));
@@ -109,15 +137,17 @@ size_tests plant =
 -- the tests of the keys at the top
 unfoldable pub unknown_tests : Members → List Test
 unknown_tests document =
-    (has_unknown (keys_of (size_fields (is_second document) (is_third document) ++ array_fields (scope_in document))) document, fault 3 top_place key.Whole) ∷ []
+    (has_unknown (keys_of (size_fields (is_second document) (is_third document) ++ (named_fields (scope_in document) ++ referring_fields (scope_in document)))) document, fault 3 top_place key.Whole) ∷ []
 
 -- the tests of a document, in their order
 unfoldable pub document_tests : Members → List Test
 document_tests document =
     unknown_tests document
     ++ (fields_tests top_place document (size_fields (is_second document) (is_third document))
-    ++ (fields_tests top_place document (array_fields (scope_in document))
-    ++ size_tests (plant_in document)))
+    ++ (fields_tests top_place document (named_fields (scope_in document))
+    ++ (lasts_tests (scope_in document) document
+    ++ (fields_tests top_place document (referring_fields (scope_in document))
+    ++ size_tests (plant_in document)))))
 
 -- the longest plant file, in bytes, by whether it is of version 3
 abbrev pub max_bytes : Bool → ℕ

@@ -1,5 +1,5 @@
 -- The field table's rows: a key, what it has to hold, and the tests of its value.
-use Rattle.std.specs.Prelude.{ℕ, ℤ, pos, negsuc, Bool, true, false, not, ◌&&◌, ◌||◌, ◌==◌, nat_lt, nat_le, unsigned_abs, List, [], ◌∷◌, ◌++◌, length, map, Option, Some, None, is_none, option_map, unwrap_or, if◌then◌else◌}
+use Rattle.std.specs.Prelude.{ℕ, ℤ, pos, negsuc, Bool, true, false, not, ◌&&◌, ◌||◌, ◌==◌, nat_lt, nat_le, int_le, unsigned_abs, List, [], ◌∷◌, ◌++◌, length, map, Option, Some, None, is_none, option_map, unwrap_or, if◌then◌else◌}
 use Rattle.std.specs.List.{list_any}
 use Rattle.std.specs.Str.{bytes_eq}
 use Rattle.toml.specs.Data.{Data, Items, no_items, item, Members, no_members, member, get_member, as_str, as_integer, as_array, as_table}
@@ -64,12 +64,16 @@ pub data Kind : Type 0 where
   declares : Places → ℕ → Kind
   -- a text that refers to a name that is declared
   refers : Places → Kind
+  -- a text that mentions a name: whether it is declared is looked at later
+  mentions : Kind
   -- a text that is a fraction of one
   part : Kind
   -- a whole number in a range
   count : ℕ → ℕ → Kind
   -- a whole number of at most this absolute value
   money : ℕ → Kind
+  -- a time between two others: whether it stands alone, without the key that it needs, and the two
+  moment : Bool → ℤ → ℤ → Kind
   -- an array of numbers: whether another key forbids it, how many, and the most that each may be
   numbers : Bool → ℕ → ℕ → Kind
   -- an array of numbers of at most this absolute value: whether another key forbids it, and how many
@@ -89,6 +93,17 @@ money_tests place name most d =
     (is_none (as_integer d), fault 6 place name)
     ∷ (not (nat_le (unsigned_abs (integer_of d)) most), fault 7 place name) ∷ []
 
+-- a whole number from low to high, either of which may be negative
+abbrev pub is_between : ℤ → ℤ → ℤ → Bool
+is_between low high z = int_le low z && int_le z high
+
+-- the tests of a time
+abbrev pub time_tests : Place → KeyName → Bool → ℤ → ℤ → Data → List Test
+time_tests place name alone low high d =
+    (is_none (as_integer d), fault 6 place name)
+    ∷ (not (is_between low high (integer_of d)), fault 7 place name)
+    ∷ (alone, fault 23 place name) ∷ []
+
 -- the tests of an array of so many values, each with its own tests
 abbrev pub list_tests : {X : Type 0} → Place → KeyName → Bool → ℕ → (Data → List Test) → (Data → X) → Data → List Test
 list_tests {X} place name forbidden many each value d =
@@ -106,11 +121,13 @@ kind_tests place name (declares places number) d =
 kind_tests place name (refers places) d =
     (is_none (as_str d), fault 6 place name)
     ∷ (is_none (places (text_of d)), fault 10 place name) ∷ []
+kind_tests place name mentions d = (is_none (as_str d), fault 6 place name) ∷ []
 kind_tests place name part d =
     (is_none (as_str d), fault 6 place name)
     ∷ (is_none (fraction_in (text_of d)), fault 11 place name) ∷ []
 kind_tests place name (count low high) d = count_tests place name low high d
 kind_tests place name (money most) d = money_tests place name most d
+kind_tests place name (moment alone low high) d = time_tests place name alone low high d
 kind_tests place name (numbers forbidden many most) d = list_tests place name forbidden many (count_tests place name 0 most) count_of d
 kind_tests place name (amounts forbidden many most) d = list_tests place name forbidden many (money_tests place name most) integer_of d
 kind_tests place name (tables most below) d =

@@ -1,10 +1,11 @@
 -- The field table: the keys of each table in the order of reading, and the record of an item.
-use Rattle.std.specs.Prelude.{ℕ, pos, ◌+◌, ◌-◌, Bool, true, false, not, map, ◌&&◌, ◌==◌, nat_lt, if◌then◌else◌, List, [], ◌∷◌, ◌++◌, length, Option, Some, None, is_some, option_map, replicate}
+use Rattle.std.specs.Prelude.{ℕ, pos, negsuc, ◌+◌, ◌-◌, Bool, true, false, not, map, ◌&&◌, ◌==◌, nat_lt, if◌then◌else◌, List, [], ◌∷◌, ◌++◌, length, Option, Some, None, is_some, is_none, option_map, replicate}
 use Rattle.std.specs.List.{list_any}
 use Rattle.toml.specs.Data.{Data, Members}
 use Rattle.stn_model.specs.declared.plant.State.{State}
 use Rattle.stn_model.specs.declared.plant.Utility.{Utility}
 use Rattle.stn_model.specs.declared.plant.StnUnit.{StnUnit}
+use Rattle.stn_model.specs.declared.plant.Last.{Last}
 use Rattle.stn_model.specs.declared.plant.Run.{Run}
 use Rattle.stn_model.specs.declared.plant.Task.{Task}
 use Rattle.stn_model.specs.declared.plant.Input.{Input}
@@ -24,7 +25,7 @@ use Rattle.plant_text.specs.declared.tables.side.SidePart.{SidePart}
 use Rattle.plant_text.specs.declared.fault.KeyName.{KeyName}
 use Rattle.plant_text.specs.declared.fault.KeyName.TheVariants as key
 use Rattle.plant_text.specs.Tests.{Test, rows_tests}
-use Rattle.plant_text.specs.Fields.{fault, declares, refers, part, count, money, numbers, amounts, tables, Field, row, needed, optional, since, held, at_key, text_of, count_of, integer_of, numbers_of, amounts_of, place_of, part_of, whole_part, items_at, members_of, table_tests}
+use Rattle.plant_text.specs.Fields.{fault, declares, refers, mentions, part, count, money, moment, numbers, amounts, tables, Field, row, needed, optional, since, held, at_key, text_of, count_of, integer_of, numbers_of, amounts_of, Places, place_of, part_of, whole_part, items_at, members_of, table_tests}
 use Rattle.plant_text.specs.Scope.{Scope}
 
 -- a limit for each time or period: the list that is given, or the one number so many times, or none
@@ -84,14 +85,40 @@ utility_of scope d = let inside = members_of d in record {
 }
 
 -- the keys of a unit
-unfoldable pub unit_fields : Scope → ℕ → List Field
-unit_fields scope number = row (needed key.Name) (declares scope.units number) ∷ []
+unfoldable pub unit_fields : Scope → ℕ → Members → List Field
+unit_fields scope number inside =
+    row (needed key.Name) (declares scope.units number)
+    ∷ row (since scope.third key.Last) mentions
+    ∷ row (since scope.third key.Until) (moment (not (is_there inside key.Last)) (negsuc 95) (pos scope.periods)) ∷ []
+
+-- the place of a unit
+abbrev pub unit_place : ℕ → Place
+unit_place number = record { table = table.StnUnit; item = number + 1; inner = 0 }
 
 unfoldable pub unit_tests : Scope → ℕ → Data → List Test
-unit_tests scope number d = table_tests (record { table = table.StnUnit; item = number + 1; inner = 0 }) (unit_fields scope number) d
+unit_tests scope number d = table_tests (unit_place number) (unit_fields scope number (members_of d)) d
 
-unfoldable pub unit_of : Data → StnUnit
-unit_of d = record { name = at_key text_of [] (members_of d) (needed key.Name) }
+-- the batch that held a unit last: its task's name stands at `last`, and its end at `until`, or is 0
+abbrev pub last_in : Scope → Members → Option Last
+last_in scope inside =
+    option_map (λ task. record { task = task; until = at_key integer_of (pos 0) inside (since scope.third key.Until) })
+    (option_map (place_of scope.tasks) (held inside (since scope.third key.Last)))
+
+unfoldable pub unit_of : Scope → Data → StnUnit
+unit_of scope d = let inside = members_of d in record {
+  name = at_key text_of [] inside (needed key.Name);
+  last = last_in scope inside;
+}
+
+-- a name that is there and is not declared
+abbrev pub is_stray : Places → Option Data → Bool
+is_stray places None = false
+is_stray places (Some d) = is_none (places (text_of d))
+
+-- after all tasks: the task of the batch that held a unit last is declared
+unfoldable pub last_tests : Scope → ℕ → Data → List Test
+last_tests scope number d =
+    (is_stray scope.tasks (held (members_of d) (since scope.third key.Last)), fault 10 (unit_place number) key.Last) ∷ []
 
 -- the keys of a run
 unfoldable pub run_fields : Scope → List Field
@@ -133,7 +160,7 @@ gap_fields scope =
     row (needed key.StnUnit) (refers scope.units)
     ∷ row (needed key.From) (refers scope.tasks)
     ∷ row (needed key.To) (refers scope.tasks)
-    ∷ row (needed key.Periods) (count (if scope.second then 0 else 1) 96)
+    ∷ row (needed key.Periods) (count (if scope.second then 0 else 1) (if scope.third then 336 else 96))
     ∷ row (since scope.second key.Cost) (count 0 1000000) ∷ []
 
 unfoldable pub gap_tests : Scope → ℕ → Data → List Test

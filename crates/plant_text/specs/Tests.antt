@@ -1,5 +1,5 @@
 -- The tests of a plant file: a list of conditions with their faults, in the order of reading.
-use Rattle.std.specs.Prelude.{◌≡◌, Bool, List, [], ◌∷◌, ◌++◌, Option, Some, None, Result, Ok, Err, if◌then◌else◌}
+use Rattle.std.specs.Prelude.{◌≡◌, ℕ, ◌+◌, Bool, List, [], ◌∷◌, ◌++◌, Option, Some, None, Result, Ok, Err, if◌then◌else◌}
 use Rattle.plant_text.specs.declared.fault.PlantFault.{PlantFault}
 use Rattle.plant_text.specs.declared.fault.PlantStop.{PlantStop}
 use Rattle.plant_text.specs.declared.fault.PlantStop.TheVariants as stop
@@ -28,3 +28,8 @@ Gives (Err e) tests value = Stops e (first_fault tests)
 abbrev pub rows_tests : {X Y : Type 0} → (List Y → X → List Test) → (X → Y) → List Y → List X → List Test
 rows_tests tests value earlier [] = []
 rows_tests tests value earlier (x ∷ xs) = tests earlier x ++ rows_tests tests value (earlier ++ value x ∷ []) xs
+
+-- the tests of some items by their numbers, the first of which has this one
+abbrev pub numbered_tests : {X : Type 0} → (ℕ → X → List Test) → ℕ → List X → List Test
+numbered_tests tests number [] = []
+numbered_tests tests number (x ∷ xs) = tests number x ++ numbered_tests tests (number + 1) xs

@@ -43,6 +43,8 @@ key_word key.To = codes "to"
 key_word key.Time = codes "time"
 key_word key.Amount = codes "amount"
 key_word key.Payment = codes "payment"
+key_word key.Last = codes "last"
+key_word key.Until = codes "until"
 
 -- the word of a table
 unfoldable pub table_word : TableName → List ℕ

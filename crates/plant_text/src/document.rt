@@ -2,11 +2,11 @@
 ghost use Rattle.std.specs.Prelude.{◌≡◌, ◌≤◌, ◌<◌, ◌==◌, [], ◌++◌, length, map, take, if◌then◌else◌, IfOk, OnOk, IfErr, None};
 ghost use Rattle.toml.specs.View.{table_view};
 ghost use Rattle.plant_text.specs.Tests.{Gives, first_fault, rows_tests, Stops};
-ghost use Rattle.plant_text.specs.Fields.{field_tests, fields_tests, at_key, count_of, items_of, natural, needed};
+ghost use Rattle.plant_text.specs.Fields.{field_tests, fields_tests, at_key, count_of, items_of, items_at, natural, needed, optional};
 ghost use Rattle.plant_text.specs.Fields as kind;
 ghost use Rattle.plant_text.specs.Names.{places_in};
 ghost use Rattle.plant_text.specs.Scope.{scope_of};
-ghost use Rattle.plant_text.specs.Document.{top_place, version_in, version_of, is_second, is_third, names_at, scope_in, size_fields, array_fields, plant_with, plant_in, size_tests, unknown_tests, document_tests};
+ghost use Rattle.plant_text.specs.Document.{top_place, version_in, version_of, is_second, is_third, names_at, scope_in, size_fields, named_fields, referring_fields, lasts_tests, with_named, with_referring, plant_with, plant_in, size_tests, unknown_tests, document_tests};
 
 use crate::fault::{KeyName, Place, PlantStop, TableName};
 use crate::find::{Key, find, key, unknown};
@@ -14,6 +14,7 @@ use crate::numbers::Numbers;
 use crate::rows::Row;
 use crate::scope::{Context, Owner};
 use crate::sizes::{too_many_gap_pairs, too_many_slots};
+use crate::tables::unit::check_lasts;
 use crate::values::{count, items_of, rows};
 use std::alloc::{AllocError, Global};
 use stn_model::limits::{
@@ -283,26 +284,23 @@ fn array<R: Row>(
     Ok(())
 }
 
-/// Reads the arrays of a document into a plant, in their order.
-#[tactic(auto, unfolding(crate::specs::Document::plant_with))]
-fn arrays(
+/// Reads the arrays of what has a name into a plant, in their order.
+fn named(
     alloc: Global,
     document: &Table,
     context: &Context,
     plant: &mut Plant,
 ) -> Result<(), PlantStop>
-    requires horizon { context.now.periods ≤ 336 }
-    requires large { plant.old.large ≡ context.now.third }
-    requires periods { plant.old.periods ≡ context.now.periods }
+    requires { context.now.periods ≤ 336 }
     ensures passes { OnOk result
         (first_fault (fields_tests top_place (table_view document.now)
-        (array_fields (scope_of context.now))) ≡ None) }
-    ensures is { OnOk result (plant.new ≡ plant_with (scope_of context.now)
-        (table_view document.now)) }
-    ensures few { OnOk result (length plant.new.runs ≤ 256) }
+        (named_fields (scope_of context.now))) ≡ None) }
+    ensures is { OnOk result (plant.new ≡ with_named (scope_of context.now)
+        (table_view document.now) plant.old) }
+    ensures few { OnOk result (length plant.new.units ≤ 96) }
     ensures err { IfErr result
         (λ e. Stops e (first_fault (fields_tests top_place (table_view document.now)
-        (array_fields (scope_of context.now))))) }
+        (named_fields (scope_of context.now))))) }
 {
     let owner = NO_OWNER;
     read_arrays! { alloc, document, context, owner, plant;
@@ -310,6 +308,30 @@ fn arrays(
         utilities: (optional Utility) SMALL_UTILITIES, MAX_UTILITIES;
         units: (optional StnUnit) SMALL_UNITS, MAX_UNITS;
         tasks: (optional Task) SMALL_TASKS, MAX_TASKS;
+    }
+    Ok(())
+}
+
+/// Reads the arrays of what refers to names into a plant, in their order.
+fn referring(
+    alloc: Global,
+    document: &Table,
+    context: &Context,
+    plant: &mut Plant,
+) -> Result<(), PlantStop>
+    requires { context.now.periods ≤ 336 }
+    ensures passes { OnOk result
+        (first_fault (fields_tests top_place (table_view document.now)
+        (referring_fields (scope_of context.now))) ≡ None) }
+    ensures is { OnOk result (plant.new ≡ with_referring (scope_of context.now)
+        (table_view document.now) plant.old) }
+    ensures few { OnOk result (length plant.new.runs ≤ 256) }
+    ensures err { IfErr result
+        (λ e. Stops e (first_fault (fields_tests top_place (table_view document.now)
+        (referring_fields (scope_of context.now))))) }
+{
+    let owner = NO_OWNER;
+    read_arrays! { alloc, document, context, owner, plant;
         runs: (optional Run) SMALL_RUNS, MAX_RUNS;
         gaps: (optional Gap) MAX_GAPS, MAX_GAPS;
         receipts: (optional Receipt) SMALL_EVENTS, MAX_EVENTS;
@@ -317,6 +339,25 @@ fn arrays(
         outages: (since context.second, Outage) SMALL_EVENTS, MAX_OUTAGES;
     }
     Ok(())
+}
+
+/// Looks whether the task is declared of each batch that held a unit of the document last.
+fn check_units(document: &Table, context: &Context) -> Result<(), PlantStop>
+    requires { length (items_at (table_view document.now) (optional KeyName.StnUnit)) ≤ 4096 }
+    ensures ok { OnOk result
+        (first_fault (lasts_tests (scope_of context.now) (table_view document.now)) ≡ None) }
+    ensures err { IfErr result
+        (λ e. Stops e (first_fault (lasts_tests (scope_of context.now)
+        (table_view document.now)))) }
+{
+    let value = match find(document, key!(optional StnUnit)) {
+        Some(value) => value,
+        None => return Ok(()),
+    };
+    match items_of(value) {
+        Some(items) => check_lasts(context, items),
+        None => Ok(()),
+    }
 }
 
 #[tactic(auto, unfolding(crate::specs::Document::size_tests, crate::specs::Tests::first_fault))]
@@ -350,11 +391,17 @@ fn check_sizes(plant: &Plant) -> Result<(), PlantStop>
 fn plant_against(alloc: Global, document: &Table, context: &Context) -> Result<Plant, PlantStop>
     requires { context.now.periods ≤ 336 }
     ensures { Gives result (fields_tests top_place (table_view document.now)
-        (array_fields (scope_of context.now)) ++ size_tests (plant_with (scope_of context.now)
-        (table_view document.now))) (plant_with (scope_of context.now) (table_view document.now)) }
+        (named_fields (scope_of context.now))
+        ++ (lasts_tests (scope_of context.now) (table_view document.now)
+        ++ (fields_tests top_place (table_view document.now)
+        (referring_fields (scope_of context.now)) ++ size_tests (plant_with (scope_of context.now)
+        (table_view document.now)))))
+        (plant_with (scope_of context.now) (table_view document.now)) }
 {
     let mut plant = bare_plant(alloc, context.third, context.periods);
-    arrays(alloc, document, context, &mut plant)?;
+    named(alloc, document, context, &mut plant)?;
+    check_units(document, context)?;
+    referring(alloc, document, context, &mut plant)?;
     check_sizes(&plant)?;
     Ok(plant)
 }

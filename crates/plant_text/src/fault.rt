@@ -62,6 +62,8 @@ pub enum KeyName {
     Time,
     Amount,
     Payment,
+    Last,
+    Until,
 }
 
 /// A place in a plant file: a table, and the item and inner item of it, counted from 1. A 0 means none.
@@ -115,6 +117,7 @@ impl Place {
 /// | 19 | more than 8,192 pairs of slots that a gap concerns, in a file of version 3 more than 32,768 |
 /// | 21 | both `limit` and `limits`, or both `rate` and `rates` |
 /// | 22 | an outage whose `from` is not below its `to` |
+/// | 23 | `until` where there is no `last` |
 #[derive(Clone, Copy, Debug, PartialEq, Eq)]
 pub struct PlantFault {
     pub kind: u8,

@@ -10,5 +10,5 @@ mod run;
 mod side;
 mod state;
 mod task;
-mod unit;
+pub mod unit;
 mod utility;

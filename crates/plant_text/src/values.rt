@@ -3,7 +3,7 @@ ghost use Rattle.std.specs.Prelude.{◌≡◌, pos, ◌≤◌, length, Bool, is_
 ghost use Rattle.toml.specs.Data.{as_str, as_array};
 ghost use Rattle.toml.specs.View.{view, table_view};
 ghost use Rattle.plant_text.specs.Tests.{Gives, rows_tests};
-ghost use Rattle.plant_text.specs.Fields.{fault, held, field_tests, at_key, count_tests, money_tests, count_of, integer_of, text_of, items_of, numbers_of, amounts_of, place_of, part_of, whole_part, kind_tests, is_within, is_before, natural};
+ghost use Rattle.plant_text.specs.Fields.{fault, held, field_tests, at_key, count_tests, money_tests, time_tests, is_between, count_of, integer_of, text_of, items_of, numbers_of, amounts_of, place_of, part_of, whole_part, kind_tests, is_within, is_before, natural};
 ghost use Rattle.plant_text.specs.Fields as kind;
 ghost use Rattle.plant_text.specs.Names.{places_in};
 ghost use Rattle.plant_text.specs.Scope.{scope_of};
@@ -123,6 +123,51 @@ pub fn money(table: &Table, place: Place, key: Key, most: u32) -> Result<i64, Pl
     }
 }
 
+/// The range of a time, and whether it stands alone, without the key that it needs.
+#[derive(Clone, Copy)]
+pub struct Span {
+    pub alone: bool,
+    pub low: i32,
+    pub high: i32,
+}
+
+fn is_between(low: i32, high: i32, number: i64) -> bool
+    ensures { result ≡ is_between low high number }
+{
+    i64::from(low) <= number && number <= i64::from(high)
+}
+
+#[tactic(auto, unfolding(crate::specs::Tests::first_fault))]
+fn time_in(value: &Value, place: Place, name: KeyName, span: Span) -> Result<i32, PlantStop>
+    ensures { Gives result (time_tests place name span.alone span.low span.high (view value.now))
+        (integer_of (view value.now)) }
+{
+    let number = match value.as_integer() {
+        Some(number) => number,
+        None => return Err(place.stop(6, name)),
+    };
+    if !is_between(span.low, span.high, number) {
+        return Err(place.stop(7, name));
+    }
+    if span.alone {
+        return Err(place.stop(23, name));
+    }
+    Ok(number as i32)
+}
+
+/// The time at a key, within its range, or 0.
+#[tactic(auto, unfolding(crate::specs::Fields::value_tests, crate::specs::Fields::kind_tests, crate::specs::Tests::first_fault))]
+pub fn time(table: &Table, place: Place, key: Key, span: Span) -> Result<i32, PlantStop>
+    ensures { Gives result (field_tests place (table_view table.now)
+        (record { key = key; kind = kind.moment span.alone span.low span.high }))
+        (at_key integer_of (pos 0) (table_view table.now) key) }
+{
+    match present(table, place, key)? {
+        None => Ok(0),
+        Some(value) => time_in(value, place, key.name, span),
+    }
+}
+
 fn is_before(place: Option<u32>, number: usize) -> bool
     ensures { result ≡ is_before place number }
 {
@@ -207,6 +252,35 @@ pub fn reference(table: &Table, place: Place, key: Key, names: &Numbers) -> Resu
     match present(table, place, key)? {
         None => Ok(0),
         Some(value) => reference_in(value, place, key.name, names),
+    }
+}
+
+#[tactic(auto, unfolding(crate::specs::Fields::kind_tests, crate::specs::Tests::first_fault))]
+fn place_in(value: &Value, place: Place, name: KeyName, names: &Numbers) -> Result<u32, PlantStop>
+    ensures { Gives result (kind_tests place name kind.mentions (view value.now))
+        (place_of (places_in names.now) (view value.now)) }
+{
+    match value.as_str() {
+        Some(text) => Ok(names.place_of(text).unwrap_or(0)),
+        None => Err(place.stop(6, name)),
+    }
+}
+
+/// The number of the name at a key, if the key is there; 0 where it is not declared, which is looked at later.
+#[tactic(auto, unfolding(crate::specs::Fields::value_tests, crate::specs::Tests::first_fault))]
+pub fn place_if_there(
+    table: &Table,
+    place: Place,
+    key: Key,
+    names: &Numbers,
+) -> Result<Option<u32>, PlantStop>
+    ensures { Gives result (field_tests place (table_view table.now)
+        (record { key = key; kind = kind.mentions }))
+        (option_map (place_of (places_in names.now)) (held (table_view table.now) key)) }
+{
+    match present(table, place, key)? {
+        None => Ok(None),
+        Some(value) => Ok(Some(place_in(value, place, key.name, names)?)),
     }
 }
 

@@ -27,7 +27,7 @@ impl KeyName {
             Limits "limits", Price "price", Holding "holding", Rate "rate", Rates "rates", Quantum "quantum",
             Input "input", Output "output", Draw "draw", Part "part", Delay "delay", Fixed "fixed",
             Each "each", Min "min", Max "max", Cost "cost", From "from", To "to", Time "time",
-            Amount "amount", Payment "payment",
+            Amount "amount", Payment "payment", Last "last", Until "until",
         }
     }
 }

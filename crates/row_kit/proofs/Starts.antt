@@ -7,7 +7,7 @@ use Rattle.std.proofs.lemmas.Bool.{cond-true, cond-false, eq-eqb, ne_eqb}
 use Rattle.std.proofs.lemmas.Bool.Decides.{nat_tests}
 use Rattle.row_kit.specs.declared.row.Change.{Change}
 use Rattle.row_kit.specs.declared.row.Tag.{Tag}
-use Rattle.row_kit.specs.Change.{started, is_after, is_between, comes_next, listed_cost, pair_cost, costs_after, changeovers}
+use Rattle.row_kit.specs.Change.{started, is_after, is_between, comes_next, listed_cost, pair_cost, costs_after}
 use Rattle.row_kit.specs.laws.Next.{least_after}
 
 -- the starts from a slot on, where the slot is not started, and where it is
@@ -54,23 +54,20 @@ pair_cost_is changes starts a b h =
     ap (λ (t : Bool). cond (is_after a b && t) (listed_cost changes a.lane a.kind b.kind) 0)
     (ap not (any_between starts a b h) ∙ not_below (least_after starts a) b.place)
 
-cond_zero : (t : Bool) → (let none : ℕ = cond t 0 0 in none ≡ 0)
+pub cond_zero : (t : Bool) → (let none : ℕ = cond t 0 0 in none ≡ 0)
 cond_zero true = refl
 cond_zero false = refl
 
 sum_zero : (f : Tag → ℕ) → ((x : Tag) → f x ≡ 0) → (xs : List Tag) → sum_by f xs ≡ 0
 sum_zero f h xs = omega (arith, sum_by-le f 0 xs (λ k d lt. omega (arith, h (get_or xs k d))))
 
--- where no change is listed, nothing costs
-pub nothing_listed : (tags : List Tag) (point : List ℕ) → changeovers [] tags point ≡ 0
-nothing_listed tags point =
-    let starts = started tags point in
-    let each = λ (a : Tag). sum_zero (pair_cost [] starts a) (λ (b : Tag). cond_zero (comes_next starts a b)) starts in
-    sum_zero (costs_after [] starts) each starts
+-- where no change is listed, no changeover costs anything
+pub nothing_listed : (starts : List Tag) (a : Tag) → costs_after [] starts a ≡ 0
+nothing_listed starts a = sum_zero (pair_cost [] starts a) (λ (b : Tag). cond_zero (comes_next starts a b)) starts
 
 -- a tag for a place where there is none
 abbrev pub no_tag : Tag
-no_tag = record { lane = 0; place = 0; kind = 0 }
+no_tag = record { lane = 0; place = 0; kind = 0; opening = 0 }
 
 -- the least so far and the least of the rest, one start further
 pub least_moves : (t : Bool) (place next rest : ℕ) → min (cond t (min place next) next) rest ≡ min next (cond t (min place rest) rest)

@@ -26,6 +26,10 @@ pub record IsBoundedChange (change : Change) : Type 0 where
   pub least : pos 0 ≤ℤ change.cost
   pub most : change.cost ≤ℤ pos 1000000
 
+-- a tag whose opening lies in its range
+abbrev pub IsBoundedTag : Tag → Type 0
+IsBoundedTag tag = tag.opening ≤ 1000000
+
 -- the parts of a program keep every bound
 pub record KeepsBounds (rows : List Row) (profit : List Entry) (base : ℤ) (root : List Domain) (tags : List Tag) (changes : List Change) : Type 0 where
   pub few_slots : length root ≤ 4096
@@ -36,3 +40,4 @@ pub record KeepsBounds (rows : List Row) (profit : List Entry) (base : ℤ) (roo
   pub base_bounded : unsigned_abs base ≤ 10000000000000000000000
   pub one_tag : length tags ≡ length root
   pub costs_bounded : All IsBoundedChange changes
+  pub openings_bounded : All IsBoundedTag tags

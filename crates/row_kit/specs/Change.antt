@@ -1,5 +1,5 @@
--- What the changeovers of a point cost.
-use Rattle.std.specs.Prelude.{ℕ, ◌==◌, nat_lt, Bool, ◌&&◌, not, max, if◌then◌else◌, List, [], ◌∷◌, unsigned_abs}
+-- What the changeovers of a point cost, and the first starts of its lanes.
+use Rattle.std.specs.Prelude.{ℕ, ◌+◌, ◌==◌, nat_lt, Bool, ◌&&◌, not, max, if◌then◌else◌, List, [], ◌∷◌, unsigned_abs}
 use Rattle.std.specs.List.{list_any, sum_by}
 use Rattle.row_kit.specs.declared.row.Change.{Change}
 use Rattle.row_kit.specs.declared.row.Tag.{Tag}
@@ -42,6 +42,18 @@ pair_cost changes starts a b = if comes_next starts a b then listed_cost changes
 abbrev pub costs_after : List Change → List Tag → Tag → ℕ
 costs_after changes starts a = sum_by (pair_cost changes starts a) starts
 
--- what the changeovers of a point cost: the sum over all pairs of its starts
+-- b comes first in its lane: no start of the lane has a lesser place
+abbrev pub comes_first : List Tag → Tag → Bool
+comes_first starts b = not (list_any (λ a. is_after a b) starts)
+
+-- what a start costs that opens its lane; nothing, unless it comes first
+abbrev pub opening_cost : List Tag → Tag → ℕ
+opening_cost starts b = if comes_first starts b then b.opening else 0
+
+-- what a start costs: the changeovers from it, and to open its lane
+abbrev pub costs_of : List Change → List Tag → Tag → ℕ
+costs_of changes starts a = costs_after changes starts a + opening_cost starts a
+
+-- what the changeovers of a point cost, with the openings of its lanes: the sum over its starts of what each costs
 abbrev pub changeovers : List Change → List Tag → List ℕ → ℕ
-changeovers changes tags point = let starts = started tags point in sum_by (costs_after changes starts) starts
+changeovers changes tags point = let starts = started tags point in sum_by (costs_of changes starts) starts

@@ -2,13 +2,13 @@
 ghost use Rattle.std.specs.Prelude.{◌≡◌, ◌≤◌, ◌<◌, ◌+◌, ◌↔◌, length, map, IsTrue, unsigned_abs};
 ghost use Rattle.std.specs.List.{All};
 ghost use Rattle.std.specs.List.Sorted.{IsStrictlyIncreasing};
-ghost use Rattle.row_kit.specs.Bounds.{AreBounded, IsBoundedRow, IsBoundedChange, KeepsBounds};
+ghost use Rattle.row_kit.specs.Bounds.{AreBounded, IsBoundedRow, IsBoundedChange, IsBoundedTag, KeepsBounds};
 ghost use Rattle.row_kit.specs.Domain.{IsNormal};
 
 use crate::domain::Domain;
 use crate::limits::{
-    MOST_BASE, MOST_CHANGE_COST, MOST_LIMIT, MOST_PROFIT_ENTRY, MOST_ROW_ENTRY, MOST_ROWS,
-    MOST_SLOTS,
+    MOST_BASE, MOST_CHANGE_COST, MOST_LIMIT, MOST_OPENING, MOST_PROFIT_ENTRY, MOST_ROW_ENTRY,
+    MOST_ROWS, MOST_SLOTS,
 };
 use crate::row::{Change, Entry, Row, Tag};
 
@@ -26,7 +26,10 @@ pub fn keeps_bounds(
     if root.len() > MOST_SLOTS || rows.len() > MOST_ROWS || tags.len() != root.len() {
         return false;
     }
-    if base.unsigned_abs() > MOST_BASE || !root_kept(root) || !changes_kept(changes) {
+    if base.unsigned_abs() > MOST_BASE || !root_kept(root) {
+        return false;
+    }
+    if !changes_kept(changes) || !tags_kept(tags) {
         return false;
     }
     rows_kept(rows, root.len()) && entries_kept(profit, root.len(), MOST_PROFIT_ENTRY)
@@ -51,6 +54,13 @@ fn is_bounded_change(change: &Change) -> bool
     ensures { IsTrue result ↔ IsBoundedChange change.now }
 {
     change.cost >= 0 && change.cost.unsigned_abs() <= MOST_CHANGE_COST
+}
+
+// Whether each tag has an opening in its range.
+fn tags_kept(tags: &[Tag]) -> bool
+    ensures { IsTrue result ↔ All IsBoundedTag tags.now }
+{
+    tags.iter().all(|tag| tag.opening <= MOST_OPENING)
 }
 
 // Whether each row keeps the bounds of rows.

@@ -1,8 +1,8 @@
-//! The worth of a point, with what its changeovers cost.
+//! The worth of a point, with what its changeovers cost and the first starts of its lanes.
 ghost use Rattle.std.specs.Prelude.{◌≡◌, ℕ, ◌*◌, ◌≤◌, ◌<◌, ◌^◌, unsigned_abs, ◌==◌, ◌&&◌, min, nat_le, length, ◌≤ℤ◌, slice_index, slice_index_or, if◌then◌else◌};
 ghost use Rattle.std.specs.List.{All};
-ghost use Rattle.row_kit.specs.Bounds.{IsBoundedChange};
-ghost use Rattle.row_kit.specs.Change.{started, is_after, is_listed, listed_cost, costs_after, changeovers};
+ghost use Rattle.row_kit.specs.Bounds.{IsBoundedChange, IsBoundedTag};
+ghost use Rattle.row_kit.specs.Change.{started, is_after, is_listed, listed_cost, costs_after, comes_first, opening_cost, costs_of, changeovers};
 ghost use Rattle.row_kit.specs.laws.Next.{least_after};
 ghost use Rattle.row_kit.specs.Point.{value_of, worth_of};
 
@@ -10,8 +10,9 @@ use crate::point::earned;
 use crate::program::Program;
 use crate::row::{Change, Tag};
 
-/// The worth of a point, in money: its value less what its changeovers cost. It is at most the value. It costs the profit
-/// entries, and where the program lists changes, for each started slot twice the slots, and the changes once for each slot that
+/// The worth of a point, in money: its value less what its changeovers cost, and what the first started slot of each lane
+/// costs to open it. It is at most the value. It costs the profit entries, for each started slot with an opening once the
+/// slots, and where the program lists changes, for each started slot twice the slots, and the changes once for each slot that
 /// comes next after it.
 pub fn worth(program: &Program, point: &[u8]) -> i128
     requires { length point.now ≡ length program.now.root }
@@ -23,24 +24,61 @@ pub fn worth(program: &Program, point: &[u8]) -> i128
     earned(program, point) - i128::from(cost)
 }
 
-// What the changeovers of a point cost.
+// What the changeovers of a point cost, with the openings of its lanes.
 fn changeovers(changes: &[Change], tags: &[Tag], point: &[u8]) -> u64
     requires few { length tags.now ≤ 4096 }
     requires same_length { length point.now ≡ length tags.now }
     requires bounded { All IsBoundedChange changes.now }
+    requires openings { All IsBoundedTag tags.now }
     ensures cost { result ≡ changeovers changes.now tags.now point.now }
-    ensures small { result ≤ 4096000000 * length tags.now }
+    ensures small { result ≤ 4097000000 * length tags.now }
 {
-    if changes.is_empty() {
-        return 0;
-    }
     let mut sum = 0u64;
     for slot in 0..tags.len() {
         if point[slot] != 0 {
-            sum += costs_after(changes, tags, point, &tags[slot]);
+            sum += costs_of(changes, tags, point, &tags[slot]);
         }
     }
     sum
+}
+
+// What a start costs: the changeovers from it, and to open its lane.
+fn costs_of(changes: &[Change], tags: &[Tag], point: &[u8], start: &Tag) -> u64
+    requires few { length tags.now ≤ 4096 }
+    requires same_length { length point.now ≡ length tags.now }
+    requires bounded { All IsBoundedChange changes.now }
+    requires opening { IsBoundedTag start.now }
+    ensures cost { result ≡ costs_of changes.now (started tags.now point.now) start.now }
+    ensures small { result ≤ 4097000000 }
+{
+    costs_after(changes, tags, point, start) + opening_cost(tags, point, start)
+}
+
+// What a start costs that opens its lane; nothing, unless it comes first.
+fn opening_cost(tags: &[Tag], point: &[u8], start: &Tag) -> u64
+    requires same_length { length point.now ≡ length tags.now }
+    requires opening { IsBoundedTag start.now }
+    ensures cost { result ≡ opening_cost (started tags.now point.now) start.now }
+    ensures small { result ≤ 1000000 }
+{
+    if start.opening > 0 && comes_first(tags, point, start) {
+        u64::from(start.opening)
+    } else {
+        0
+    }
+}
+
+// Whether a start comes first in its lane.
+fn comes_first(tags: &[Tag], point: &[u8], start: &Tag) -> bool
+    requires { length point.now ≡ length tags.now }
+    ensures { result ≡ comes_first (started tags.now point.now) start.now }
+{
+    for slot in 0..tags.len() {
+        if point[slot] != 0 && is_after(&tags[slot], start) {
+            return false;
+        }
+    }
+    true
 }
 
 // What the changeovers from one start to those that come next after it cost.
@@ -51,6 +89,9 @@ fn costs_after(changes: &[Change], tags: &[Tag], point: &[u8], start: &Tag) -> u
     ensures cost { result ≡ costs_after changes.now (started tags.now point.now) start.now }
     ensures small { result ≤ 1000000 * length tags.now }
 {
+    if changes.is_empty() {
+        return 0;
+    }
     let next = next_place(tags, point, start);
     let mut sum = 0u64;
     for slot in 0..tags.len() {

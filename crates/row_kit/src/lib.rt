@@ -29,8 +29,8 @@ pub use former::Former;
 pub use found::Found;
 pub use gather::entries_of;
 pub use limits::{
-    MOST_BASE, MOST_CHANGE_COST, MOST_LIMIT, MOST_PROFIT_ENTRY, MOST_ROW_ENTRY, MOST_ROWS,
-    MOST_SLOTS,
+    MOST_BASE, MOST_CHANGE_COST, MOST_LIMIT, MOST_OPENING, MOST_PROFIT_ENTRY, MOST_ROW_ENTRY,
+    MOST_ROWS, MOST_SLOTS,
 };
 pub use list::List;
 pub use point::{is_lawful, lies_in, value};

@@ -20,3 +20,6 @@ pub const MOST_BASE: u128 = 10_000_000_000_000_000_000_000;
 
 /// The most that a changeover costs: money.
 pub const MOST_CHANGE_COST: u64 = 1_000_000;
+
+/// The most that the opening of a lane costs: money.
+pub const MOST_OPENING: u32 = 1_000_000;

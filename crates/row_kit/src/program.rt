@@ -2,7 +2,7 @@
 ghost use Rattle.std.specs.Prelude.{◌≡◌, ◌≤◌, ◌↔◌, length, unsigned_abs, IsSome, IfSome};
 ghost use Rattle.std.specs.List.{All};
 ghost use Rattle.row_kit.specs.Domain.{IsNormal};
-ghost use Rattle.row_kit.specs.Bounds.{AreBounded, IsBoundedRow, IsBoundedChange};
+ghost use Rattle.row_kit.specs.Bounds.{AreBounded, IsBoundedRow, IsBoundedChange, IsBoundedTag};
 
 use crate::bounds::keeps_bounds;
 use crate::domain::Domain;
@@ -10,7 +10,8 @@ use crate::list::List;
 use crate::row::{Change, Entry, Row, Tag};
 
 /// A constraint model over slots: each slot has one value of its root domain, each row is to be kept, and the value of a point
-/// is `base` plus its profit entries. `changes` lists what a changeover from one started slot of a lane to the next costs.
+/// is `base` plus its profit entries. `changes` lists what a changeover from one started slot of a lane to the next costs, and a
+/// tag what the slot costs where it is the first started one of its lane.
 #[derive(Drop)]
 pub struct Program {
     pub rows: List<Row>,
@@ -27,6 +28,7 @@ pub struct Program {
     pub ghost base_bounded: { unsigned_abs base ≤ 10000000000000000000000 },
     pub ghost one_tag: { length tags ≡ length root },
     pub ghost costs_bounded: { All IsBoundedChange changes },
+    pub ghost openings_bounded: { All IsBoundedTag tags },
 }
 
 impl Program {

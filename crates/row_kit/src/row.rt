@@ -16,12 +16,14 @@ pub struct Row {
     pub limit: i128,
 }
 
-/// Where a slot stands: the lane it occupies, its place in the lane's order, and its kind.
+/// Where a slot stands: the lane it occupies, its place in the lane's order, and its kind; and what it costs, in money, where
+/// it is the first started one of its lane.
 #[derive(Clone, Copy, PartialEq, Eq, Debug)]
 pub struct Tag {
     pub lane: u32,
     pub place: u32,
     pub kind: u32,
+    pub opening: u32,
 }
 
 /// What it costs, in money, where in a lane a started slot of kind `to` comes next after one of kind `from`.

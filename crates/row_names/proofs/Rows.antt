@@ -15,10 +15,11 @@ use Rattle.balance_rows.specs.StockRows.{low_row, high_row, low_rows, high_rows,
 use Rattle.utility_rows.specs.LoadRows.{load_row, load_rows}
 use Rattle.unit_rows.specs.Busy.{busy_row, busy_rows, unit_busy_rows, is_on}
 use Rattle.unit_rows.specs.Gaps.{gap_row, gap_rows, unit_gap_rows, rows_after, rows_from, is_too_soon}
+use Rattle.unit_rows.specs.Firsts.{first_row, first_rows, unit_first_rows, is_early_on}
 use Rattle.row_set.specs.PlantProgram.{plant_rows}
 use Rattle.row_names.specs.declared.name.RowName.{RowName}
-use Rattle.row_names.specs.declared.name.RowName.TheVariants.{Busy, Low, High, Load, Gap}
-use Rattle.row_names.specs.RowNames.{slot_at, row_named, busy_names, low_names, high_names, load_names, gaps_after, gaps_on, gap_names, row_names}
+use Rattle.row_names.specs.declared.name.RowName.TheVariants.{Busy, Low, High, Load, Gap, Last}
+use Rattle.row_names.specs.RowNames.{slot_at, row_named, busy_names, low_names, high_names, load_names, gaps_after, gaps_on, gap_names, firsts_on, first_names, row_names}
 
 -- ---- lists
 
@@ -131,17 +132,35 @@ gap-rows-are plant =
     map-pieces (row_named plant) (gaps_on plant) (range_with_len 0 (length plant.units))
     ∙ same-pieces (λ unit. map (row_named plant) (gaps_on plant unit)) (unit_gap_rows plant) (on-rows-are plant) (range_with_len 0 (length plant.units))
 
+-- ---- first rows
+
+early-rows-are : (plant : Plant) (unit : ℕ) → map (row_named plant) (firsts_on plant unit) ≡ unit_first_rows plant unit
+unfolding firsts_on unit_first_rows
+early-rows-are plant unit =
+    let early = filter (λ slot. is_early_on plant unit (slot_at plant slot)) (range_with_len 0 (length (slots plant))) in
+    sym (map-map (row_named plant) (Last unit) early)
+    ∙ map-map (first_row plant) (slot_at plant) early
+    ∙ ap (map (first_row plant)) (chosen-slots plant (is_early_on plant unit))
+
+first-rows-are : (plant : Plant) → map (row_named plant) (first_names plant) ≡ first_rows plant
+unfolding first_names first_rows
+first-rows-are plant =
+    map-pieces (row_named plant) (firsts_on plant) (range_with_len 0 (length plant.units))
+    ∙ same-pieces (λ unit. map (row_named plant) (firsts_on plant unit)) (unit_first_rows plant) (early-rows-are plant) (range_with_len 0 (length plant.units))
+
 -- ---- all
 
 -- the rows of all names
 pub rows_are : (plant : Plant) → map (row_named plant) (row_names plant) ≡ plant_rows plant
 unfolding row_names plant_rows stock_rows
 rows_are plant =
-    map-append (row_named plant) (busy_names plant) (low_names plant ++ (high_names plant ++ (load_names plant ++ gap_names plant)))
+    map-append (row_named plant) (busy_names plant) (low_names plant ++ (high_names plant ++ (load_names plant ++ (gap_names plant ++ first_names plant))))
     ∙ ap₂ (λ a b. a ++ b) (busy-rows-are plant)
-    (map-append (row_named plant) (low_names plant) (high_names plant ++ (load_names plant ++ gap_names plant))
+    (map-append (row_named plant) (low_names plant) (high_names plant ++ (load_names plant ++ (gap_names plant ++ first_names plant)))
     ∙ ap₂ (λ a b. a ++ b) (low-rows-are plant)
-    (map-append (row_named plant) (high_names plant) (load_names plant ++ gap_names plant)
+    (map-append (row_named plant) (high_names plant) (load_names plant ++ (gap_names plant ++ first_names plant))
     ∙ ap₂ (λ a b. a ++ b) (high-rows-are plant)
-    (map-append (row_named plant) (load_names plant) (gap_names plant) ∙ ap₂ (λ a b. a ++ b) (load-rows-are plant) (gap-rows-are plant)))
-    ∙ sym (append_assoc (low_rows plant) (high_rows plant) (load_rows plant ++ gap_rows plant)))
+    (map-append (row_named plant) (load_names plant) (gap_names plant ++ first_names plant)
+    ∙ ap₂ (λ a b. a ++ b) (load-rows-are plant)
+    (map-append (row_named plant) (gap_names plant) (first_names plant) ∙ ap₂ (λ a b. a ++ b) (gap-rows-are plant) (first-rows-are plant))))
+    ∙ sym (append_assoc (low_rows plant) (high_rows plant) (load_rows plant ++ (gap_rows plant ++ first_rows plant))))

@@ -8,8 +8,9 @@ use Rattle.balance_rows.specs.StockRows.{low_row, high_row, limit_count}
 use Rattle.utility_rows.specs.LoadRows.{load_row}
 use Rattle.unit_rows.specs.Busy.{busy_row, is_on}
 use Rattle.unit_rows.specs.Gaps.{gap_row, is_too_soon}
+use Rattle.unit_rows.specs.Firsts.{first_row, is_early_on}
 use Rattle.row_names.specs.declared.name.RowName.{RowName}
-use Rattle.row_names.specs.declared.name.RowName.TheVariants.{Busy, Low, High, Load, Gap}
+use Rattle.row_names.specs.declared.name.RowName.TheVariants.{Busy, Low, High, Load, Gap, Last}
 
 -- the slot of this number
 abbrev pub slot_at : Plant → ℕ → ℕ × ℕ
@@ -22,6 +23,7 @@ row_named plant (Low state time) = low_row plant state time
 row_named plant (High state time) = high_row plant state time
 row_named plant (Load utility period) = load_row plant utility period
 row_named plant (Gap unit first second) = gap_row plant (slot_at plant first) (slot_at plant second)
+row_named plant (Last unit slot) = first_row plant (slot_at plant slot)
 
 -- the names of the busy rows, by unit, then by period
 unfoldable pub busy_names : Plant → List RowName
@@ -51,6 +53,14 @@ gaps_on plant unit = flat_map (gaps_after plant unit) (filter (λ first. is_on p
 unfoldable pub gap_names : Plant → List RowName
 gap_names plant = flat_map (gaps_on plant) (range_with_len 0 (length plant.units))
 
--- the names of a plant's rows: those of the busy rows, of stocks, low and high, of loads, and of the gap rows
+-- the names of the first rows of a unit, by the number of the slot
+unfoldable pub firsts_on : Plant → ℕ → List RowName
+firsts_on plant unit = map (Last unit) (filter (λ slot. is_early_on plant unit (slot_at plant slot)) (range_with_len 0 (length (slots plant))))
+
+-- the names of the first rows, by unit
+unfoldable pub first_names : Plant → List RowName
+first_names plant = flat_map (firsts_on plant) (range_with_len 0 (length plant.units))
+
+-- the names of a plant's rows: those of the busy rows, of stocks, low and high, of loads, of the gap rows, and of the first rows
 unfoldable pub row_names : Plant → List RowName
-row_names plant = busy_names plant ++ (low_names plant ++ (high_names plant ++ (load_names plant ++ gap_names plant)))
+row_names plant = busy_names plant ++ (low_names plant ++ (high_names plant ++ (load_names plant ++ (gap_names plant ++ first_names plant))))

@@ -7,8 +7,9 @@ ghost use Rattle.unit_rows.specs.Gaps.{gap_after, is_too_soon};
 ghost use Rattle.row_names.specs.RowNames.{gaps_after, gaps_on, gap_names};
 
 use crate::name::RowName;
+use crate::slot::{is_on, slot_end};
 use std::alloc::AllocError;
-use stn_model::{Plant, Run, duration, gap_of};
+use stn_model::{Plant, Run, gap_of};
 use time_grid::Grid;
 
 /// Appends the names of the gap rows, by unit, then by the first slot, then by the second.
@@ -94,24 +95,4 @@ fn gap_after(plant: &Plant, first: &Run, second: &Run) -> u32
     } else {
         0
     }
-}
-
-// Whether the slot is one of the unit.
-fn is_on(plant: &Plant, unit: u32, slot: (u32, u32)) -> bool
-    requires { slot.0 < length plant.now.runs }
-    ensures { result ≡ is_on plant.now unit slot }
-{
-    plant.runs.get(slot.0 as usize).unit == unit
-}
-
-// The time at which a start in the slot ends.
-fn slot_end(plant: &Plant, slot: (u32, u32)) -> u64
-    requires sound { Sound plant.now }
-    requires run { slot.0 < length plant.now.runs }
-    ensures value { result ≡ slot_end plant.now slot }
-    ensures small { result < 2 ^ 33 }
-{
-    let run = plant.runs.get(slot.0 as usize);
-    let task = plant.tasks.get(run.task as usize);
-    slot.1 as u64 + duration(task) as u64
 }

@@ -3,9 +3,11 @@
 //! `row_names` makes the list; the law that it states says that the rows of these names are exactly the program's.
 #![tactic(auto)]
 
+mod firsts;
 mod gaps;
 mod name;
 mod names;
+mod slot;
 mod tables;
 
 pub use name::RowName;

@@ -13,4 +13,6 @@ pub enum RowName {
     Load { utility: u32, period: u32 },
     /// Batches in these two slots of the unit, which are too near for the cleaning, have another between them.
     Gap { unit: u32, first: u32, second: u32 },
+    /// A batch in this slot of the unit, which is too early after the batch that held it before the plan, has another before it.
+    Last { unit: u32, slot: u32 },
 }

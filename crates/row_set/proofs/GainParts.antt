@@ -17,7 +17,7 @@ use Rattle.stn_model.specs.Points.{has_slot, least_start}
 use Rattle.stn_model.specs.Sums.{total, total_below}
 use Rattle.stn_model.specs.Profit.{end_value, holding_cost, utility_cost, cost_of, start_cost, profit}
 use Rattle.stn_model.specs.Sound.{Sound, SoundTask}
-use Rattle.plain_plan.proofs.SmallProfit.{change_costs-nil, change_costs-one}
+use Rattle.plain_plan.proofs.SmallProfit.{change_costs-nil}
 use Rattle.plain_plan.proofs.Linear.{gain_alone}
 use Rattle.time_grid.specs.Slots.{IsSlotOf}
 use Rattle.time_grid.specs.PlanPoint.{start_in}
@@ -330,5 +330,4 @@ module _ (plant : Plant) (sound : Sound plant) (slot : ℕ × ℕ) (is : IsSlotO
         start_cost-one,
         start_cost-none,
         change_costs-nil plant,
-        change_costs-one plant (start_in plant slot v),
       )

@@ -16,7 +16,7 @@ use Rattle.row_set.proofs.Roots.{root-open}
 pub made-slots : (plant : Plant) (program : Program) → Sound plant → IsMadeOf plant program → length program.root ≤ 4096
 made-slots plant program sound made = omega (arith, ap length made.root_is, length-map (slots plant) (slot_domain plant), few-slots plant sound)
 
-pub made-rows : (plant : Plant) (program : Program) → Sound plant → IsMadeOf plant program → length program.rows ≤ 194368
+pub made-rows : (plant : Plant) (program : Program) → Sound plant → IsMadeOf plant program → length program.rows ≤ 198464
 made-rows plant program sound made = omega (arith, ap length made.rows_are, length-plant_rows plant sound)
 
 pub made-open : (plant : Plant) (program : Program) → IsMadeOf plant program → All IsOpen program.root
@@ -25,5 +25,5 @@ made-open plant program made = subst (All IsOpen) (sym made.root_is) (root-open 
 pub part-slots : (plant : Plant) (part : Program) → Sound plant → IsPartOf plant part → length part.root ≤ 4096
 part-slots plant part sound is = omega (arith, part.one_tag, is.whole.one_tag, ap length is.but_root.tags, made-slots plant is.whole sound is.made)
 
-pub part-rows : (plant : Plant) (part : Program) → Sound plant → IsPartOf plant part → length part.rows ≤ 194368
+pub part-rows : (plant : Plant) (part : Program) → Sound plant → IsPartOf plant part → length part.rows ≤ 198464
 part-rows plant part sound is = omega (arith, ap length is.but_root.rows, made-rows plant is.whole sound is.made)

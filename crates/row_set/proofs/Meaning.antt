@@ -30,8 +30,10 @@ use Rattle.utility_rows.specs.LoadRows.{load_rows}
 use Rattle.utility_rows.proofs.Meaning.{load_rows-kept}
 use Rattle.unit_rows.specs.Busy.{busy_rows}
 use Rattle.unit_rows.specs.Gaps.{gap_rows}
+use Rattle.unit_rows.specs.Firsts.{first_rows}
 use Rattle.unit_rows.proofs.BusyRows.{busy_rows-kept}
 use Rattle.unit_rows.proofs.GapRows.{gap_rows-kept}
+use Rattle.unit_rows.proofs.FirstRows.{first_rows-kept}
 use Rattle.unit_rows.proofs.PointRows.{entries_sum-plan_point}
 use Rattle.row_set.specs.ProfitParts.{profit_part}
 use Rattle.row_set.specs.PlantProgram.{plant_rows, IsMadeOf, IsProgramOf}
@@ -39,30 +41,34 @@ use Rattle.row_set.proofs.GainParts.{gain-parts}
 use Rattle.row_set.proofs.Roots.{point-of_root, root-of_point}
 use Rattle.row_set.proofs.Changeovers.{changeovers-are}
 
--- the four families of rows
+-- the five families of rows
 record KeepsFamilies (plant : Plant) (kept : Row → Type 0) : Type 0 where
   busy : All kept (busy_rows plant)
   stocks : All kept (stock_rows plant)
   loads : All kept (load_rows plant)
   gaps : All kept (gap_rows plant)
+  firsts : All kept (first_rows plant)
 
 families : (plant : Plant) (kept : Row → Type 0) → All kept (plant_rows plant) → KeepsFamilies plant kept
 unfolding plant_rows
 families plant kept all =
-    let rest = All-back kept (busy_rows plant) (stock_rows plant ++ (load_rows plant ++ gap_rows plant)) all in
-    let last = All-back kept (stock_rows plant) (load_rows plant ++ gap_rows plant) rest in
+    let rest = All-back kept (busy_rows plant) (stock_rows plant ++ (load_rows plant ++ (gap_rows plant ++ first_rows plant))) all in
+    let later = All-back kept (stock_rows plant) (load_rows plant ++ (gap_rows plant ++ first_rows plant)) rest in
+    let last = All-back kept (load_rows plant) (gap_rows plant ++ first_rows plant) later in
     record {
-      busy = All-front kept (busy_rows plant) (stock_rows plant ++ (load_rows plant ++ gap_rows plant)) all;
-      stocks = All-front kept (stock_rows plant) (load_rows plant ++ gap_rows plant) rest;
-      loads = All-front kept (load_rows plant) (gap_rows plant) last;
-      gaps = All-back kept (load_rows plant) (gap_rows plant) last;
+      busy = All-front kept (busy_rows plant) (stock_rows plant ++ (load_rows plant ++ (gap_rows plant ++ first_rows plant))) all;
+      stocks = All-front kept (stock_rows plant) (load_rows plant ++ (gap_rows plant ++ first_rows plant)) rest;
+      loads = All-front kept (load_rows plant) (gap_rows plant ++ first_rows plant) later;
+      gaps = All-front kept (gap_rows plant) (first_rows plant) last;
+      firsts = All-back kept (gap_rows plant) (first_rows plant) last;
     }
 
-pub all_rows : (plant : Plant) (kept : Row → Type 0) → All kept (busy_rows plant) → All kept (stock_rows plant) → All kept (load_rows plant) → All kept (gap_rows plant) → All kept (plant_rows plant)
+pub all_rows : (plant : Plant) (kept : Row → Type 0) → All kept (busy_rows plant) → All kept (stock_rows plant) → All kept (load_rows plant) → All kept (gap_rows plant) → All kept (first_rows plant) → All kept (plant_rows plant)
 unfolding plant_rows
-all_rows plant kept busy stocks loads gaps =
-    All-append kept (busy_rows plant) (stock_rows plant ++ (load_rows plant ++ gap_rows plant)) busy
-    (All-append kept (stock_rows plant) (load_rows plant ++ gap_rows plant) stocks (All-append kept (load_rows plant) (gap_rows plant) loads gaps))
+all_rows plant kept busy stocks loads gaps firsts =
+    All-append kept (busy_rows plant) (stock_rows plant ++ (load_rows plant ++ (gap_rows plant ++ first_rows plant))) busy
+    (All-append kept (stock_rows plant) (load_rows plant ++ (gap_rows plant ++ first_rows plant)) stocks
+    (All-append kept (load_rows plant) (gap_rows plant ++ first_rows plant) loads (All-append kept (gap_rows plant) (first_rows plant) gaps firsts)))
 
 -- a plan with a point keeps all rows exactly where it is feasible
 rows_from_feasible : (plant : Plant) (plan : List Start) → Sound plant → HasPoint plant plan → Feasible plant plan → All (IsKept (plan_point plant plan)) (plant_rows plant)
@@ -72,6 +78,7 @@ rows_from_feasible plant plan sound has is =
     ((stock_rows-kept plant plan sound has).1 is.stocks)
     ((load_rows-kept plant plan sound has).1 is.loads)
     ((gap_rows-kept plant plan sound has is.apart).1 is.cleaned)
+    ((first_rows-kept plant plan sound has).1 is.begun)
 
 feasible_from_rows : (plant : Plant) (plan : List Start) → Sound plant → HasPoint plant plan → All (IsKept (plan_point plant plan)) (plant_rows plant) → Feasible plant plan
 feasible_from_rows plant plan sound has all =
@@ -81,6 +88,7 @@ feasible_from_rows plant plan sound has all =
       fits = has.fits;
       apart = apart;
       cleaned = (gap_rows-kept plant plan sound has apart).0 each.gaps;
+      begun = (first_rows-kept plant plan sound has).0 each.firsts;
       stocks = (stock_rows-kept plant plan sound has).0 each.stocks;
       loads = (load_rows-kept plant plan sound has).0 each.loads;
     }

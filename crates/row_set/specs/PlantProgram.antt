@@ -5,7 +5,7 @@ use Rattle.stn_model.specs.declared.plant.Gap.{Gap}
 use Rattle.stn_model.specs.declared.start.Start.{Start}
 use Rattle.stn_model.specs.Feasible.{Feasible}
 use Rattle.stn_model.specs.Profit.{profit}
-use Rattle.stn_model.specs.Plant.{run_at}
+use Rattle.stn_model.specs.Plant.{first_cost, run_at}
 use Rattle.time_grid.specs.Slots.{slots}
 use Rattle.time_grid.specs.PlanPoint.{HasPoint, plan_point, IsPlanOf}
 use Rattle.row_kit.specs.declared.domain.Domain.{Domain}
@@ -19,11 +19,12 @@ use Rattle.balance_rows.specs.StockRows.{stock_rows}
 use Rattle.utility_rows.specs.LoadRows.{load_rows}
 use Rattle.unit_rows.specs.Busy.{busy_rows}
 use Rattle.unit_rows.specs.Gaps.{gap_rows}
+use Rattle.unit_rows.specs.Firsts.{first_rows}
 use Rattle.row_set.specs.ProfitParts.{profit_part}
 
--- the rows of a plant: the busy rows, those of stocks, low and high, those of loads, and the gap rows
+-- the rows of a plant: the busy rows, those of stocks, low and high, those of loads, the gap rows, and the first rows
 unfoldable pub plant_rows : Plant → List Row
-plant_rows plant = busy_rows plant ++ (stock_rows plant ++ (load_rows plant ++ gap_rows plant))
+plant_rows plant = busy_rows plant ++ (stock_rows plant ++ (load_rows plant ++ (gap_rows plant ++ first_rows plant)))
 
 -- what a slot may have: no start, or one of a size of its run
 abbrev pub slot_domain : Plant → ℕ × ℕ → Domain
@@ -33,9 +34,14 @@ slot_domain plant slot = record { zero = true; lo = (run_at plant slot.0).min; h
 abbrev pub plant_root : Plant → List Domain
 plant_root plant = map (slot_domain plant) (slots plant)
 
--- a slot lies in its unit's lane, at its period, and is of its task's kind
+-- a slot lies in its unit's lane, at its period, is of its task's kind, and opens the lane at the cost of a first batch of it
 abbrev pub slot_tag : Plant → ℕ × ℕ → Tag
-slot_tag plant slot = record { lane = (run_at plant slot.0).unit; place = slot.1; kind = (run_at plant slot.0).task }
+slot_tag plant slot = record {
+  lane = (run_at plant slot.0).unit;
+  place = slot.1;
+  kind = (run_at plant slot.0).task;
+  opening = first_cost plant (run_at plant slot.0).unit (run_at plant slot.0).task;
+}
 
 -- what a gap's changeover costs
 abbrev pub gap_change : Gap → Change

@@ -9,7 +9,7 @@ ghost use Rattle.row_set.specs.PlantProgram.{slot_domain, slot_tag, gap_change, 
 use crate::profit::{each_profit, fixed_profit};
 use row_kit::{Change, Domain, Entry, List, Tag, entries_of};
 use std::alloc::{AllocError, Global};
-use stn_model::{Gap, Plant};
+use stn_model::{Gap, Plant, first_cost};
 use time_grid::Grid;
 
 // What the slots count in the profit, as entries.
@@ -81,7 +81,7 @@ fn slot_domain(plant: &Plant, slot: (u32, u32)) -> Domain
     }
 }
 
-// Where the slots stand.
+// Where the slots stand, and what they cost where they come first on their units.
 pub fn tags_of(alloc: Global, plant: &Plant, grid: &Grid) -> Result<List<Tag>, AllocError>
     requires sound { Sound plant.now }
     requires grid { IsGrid plant.now grid.now }
@@ -94,7 +94,7 @@ pub fn tags_of(alloc: Global, plant: &Plant, grid: &Grid) -> Result<List<Tag>, A
     Ok(List::from_vec(tags))
 }
 
-// Where a slot stands: in its unit's lane, at its period, with its task's kind.
+// Where a slot stands: in its unit's lane, at its period, with its task's kind, and with the cost of a first batch.
 fn slot_tag(plant: &Plant, slot: (u32, u32)) -> Tag
     requires { slot.0 < length plant.now.runs }
     ensures { result ≡ slot_tag plant.now slot }
@@ -104,6 +104,7 @@ fn slot_tag(plant: &Plant, slot: (u32, u32)) -> Tag
         lane: run.unit,
         place: slot.1,
         kind: run.task,
+        opening: first_cost(plant, run.unit, run.task),
     }
 }
 

@@ -10,7 +10,7 @@ use row_kit::{List, Program, Row};
 use std::alloc::{AllocError, Global};
 use stn_model::Plant;
 use time_grid::Grid;
-use unit_rows::{add_busy, add_gaps};
+use unit_rows::{add_busy, add_firsts, add_gaps};
 
 /// The program of a plant: its slots, the rows of its units, stocks and utilities, and what its starts and changeovers earn and
 /// cost. A list of starts is feasible exactly where it has a point that lies in the root and keeps all rows; the worth of the
@@ -37,7 +37,7 @@ pub fn program_of(alloc: Global, plant: &Plant) -> Result<Program, AllocError>
     })
 }
 
-// The rows of a plant: busy, low, high, load and gap rows, in this order.
+// The rows of a plant: busy, low, high, load, gap and first rows, in this order.
 fn rows_of(alloc: Global, plant: &Plant, grid: &Grid) -> Result<List<Row>, AllocError>
     requires sound { Sound plant.now }
     requires grid { IsGrid plant.now grid.now }
@@ -48,5 +48,6 @@ fn rows_of(alloc: Global, plant: &Plant, grid: &Grid) -> Result<List<Row>, Alloc
     balance_rows::add_rows(alloc, plant, grid, &mut rows)?;
     utility_rows::add_rows(alloc, plant, grid, &mut rows)?;
     add_gaps(alloc, plant, grid, &mut rows)?;
+    add_firsts(alloc, plant, grid, &mut rows)?;
     Ok(List::from_vec(rows))
 }

@@ -82,6 +82,7 @@ fn tags(alloc: Global, count: usize) -> Result<List<Tag>, AllocError> {
             lane: 0,
             place: 0,
             kind: 0,
+            opening: 0,
         })?;
     }
     Ok(list)

@@ -5,20 +5,19 @@ use Rattle.std.specs.List.Sorted.{IsStrictlyIncreasing}
 use Rattle.std.proofs.lemmas.Bool.{cases_Bool, cases_lt}
 use Rattle.std.proofs.lemmas.Int.{ints}
 use Rattle.std.proofs.lemmas.List.{get_or_append_left, get_or-append_right, length-append, length-map, length-replicate, map-append}
-use Rattle.std.proofs.lemmas.List.Elements.{All-append, All-cons, All-head, All-map, All-nil, All-replicate, All-tail, All-weaker}
+use Rattle.std.proofs.lemmas.List.Elements.{All-append, All-cons, All-map, All-nil, All-replicate, All-weaker}
 use Rattle.stn_model.specs.declared.plant.Plant.{Plant}
-use Rattle.stn_model.specs.Plant.{cost_between, is_between}
 use Rattle.stn_model.specs.Sound.{Sound}
-use Rattle.stn_model.specs.Sums.{greatest_by}
 use Rattle.row_kit.specs.declared.domain.Domain.{Domain}
 use Rattle.row_kit.specs.declared.program.Program.{Program}
 use Rattle.row_kit.specs.declared.row.Entry.{Entry}
 use Rattle.row_kit.specs.declared.row.Row.{Row}
 use Rattle.row_kit.specs.declared.row.Tag.{Tag}
-use Rattle.row_kit.specs.Bounds.{AreBounded, IsBoundedRow, KeepsBounds}
+use Rattle.row_kit.specs.Bounds.{AreBounded, IsBoundedRow, IsBoundedTag, KeepsBounds}
 use Rattle.row_kit.specs.Domain.{IsNormal}
 use Rattle.row_kit.specs.Row.{entries_from, is_nothing}
 use Rattle.row_kit.proofs.Gathered.{AreBounded-from, IsPartWithin, entries-keep, entries-skip}
+use Rattle.row_set.proofs.Bounds.{cost_most, first_cost_most}
 use Rattle.setup_slots.specs.declared.setup.SetupRow.{SetupRow}
 use Rattle.setup_slots.specs.declared.setup.SetupRow.TheVariants.{Single, Held, Begun}
 use Rattle.setup_slots.specs.declared.setup.SetupSlot.{SetupSlot}
@@ -115,26 +114,9 @@ row_bounded slots setups unit first row room =
       limit = limit_small row;
     }
 
--- what a changeover costs is bounded
-greatest_most : {X : Type 0} (f : X → ℕ) (most : ℕ) (xs : List X) → All (λ x. f x ≤ most) xs → greatest_by f xs ≤ most
-greatest_most f most [] all = omega arith
-greatest_most f most (x ∷ xs) all =
-    let first = All-head (λ y. f y ≤ most) x xs all in
-    let rest = greatest_most f most xs (All-tail (λ y. f y ≤ most) x xs all) in
-    omega (arith, first, rest)
-
-if_most : (t : Bool) (n most : ℕ) → n ≤ most → cond t n 0 ≤ most
-if_most true n most less = less
-if_most false n most less = omega arith
-
-cost_most : (plant : Plant) (unit from to : ℕ) → Sound plant → cost_between plant unit from to ≤ 1000000
-unfolding cost_between
-cost_most plant unit from to sound =
-    greatest_most (λ gap. cond (is_between unit from to gap) gap.cost 0) 1000000 plant.gaps
-    (λ k d l. let gap = get_or plant.gaps k d in if_most (is_between unit from to gap) gap.cost 1000000 (sound.gaps k d l).cost)
-
+-- what a slot of a setup earns is bounded
 profit_within : (plant : Plant) (unit : ℕ) (slot : SetupSlot) → Sound plant → IsPartWithin 2000000000000000 (fixed_part (setup_profit plant unit slot))
-profit_within plant unit (First task) sound = record { fixed = omega arith; per = omega arith }
+profit_within plant unit (First task) sound = record { fixed = (let most = first_cost_most plant unit task sound in omega (arith, ints, most)); per = omega arith }
 profit_within plant unit (Change from to at) sound = record { fixed = (let most = cost_most plant unit from to sound in omega (arith, ints, most)); per = omega arith }
 
 -- entries of parts behind slots that count nothing name later slots
@@ -239,4 +221,5 @@ keeps-bounds plant unit lane program rows profit root tags sound begins room are
       base_bounded = program.base_bounded;
       one_tag = ap length are_tags ∙ omega (arith, slots, program.one_tag, length-append program.tags (map (λ (s : SetupSlot). setup_tag lane) setups), length-map setups (λ s. setup_tag lane));
       costs_bounded = program.costs_bounded;
+      openings_bounded = subst (All IsBoundedTag) (sym are_tags) (All-append IsBoundedTag program.tags (map (λ (s : SetupSlot). setup_tag lane) setups) program.openings_bounded (All-map IsBoundedTag (λ (s : SetupSlot). setup_tag lane) setups (λ k d l. omega arith)));
     }

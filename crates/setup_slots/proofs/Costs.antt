@@ -7,12 +7,13 @@ use Rattle.std.proofs.lemmas.List.Elements.{All-head, All-tail}
 use Rattle.std.proofs.lemmas.List.Sums.{sum_by-cons, sum_by-le-sum_by}
 use Rattle.stn_model.specs.declared.plant.Plant.{Plant}
 use Rattle.stn_model.specs.declared.start.Start.{Start}
-use Rattle.stn_model.specs.Batches.{is_next}
-use Rattle.stn_model.specs.Plant.{cost_between}
-use Rattle.stn_model.specs.Profit.{changeover}
+use Rattle.stn_model.specs.Batches.{is_first, is_next}
+use Rattle.stn_model.specs.Plant.{cost_between, first_cost}
+use Rattle.stn_model.specs.Profit.{changeover, first_change}
 use Rattle.stn_model.specs.Sums.{total}
 use Rattle.setup_slots.specs.Image.{changes_along, setup_of}
 use Rattle.setup_slots.specs.Rows.{setup_profit}
+use Rattle.setup_slots.proofs.Starts.{Opens}
 use Rattle.setup_slots.proofs.Steps.{FollowAll, Follows, total_next}
 
 -- the sum over all pairs of starts
@@ -45,8 +46,15 @@ costs_along plant unit plan a (b ∷ rest) follows on =
     let all : ℕ = pairs_sum g (a ∷ (b ∷ rest)) in
     total_next f a b rest (λ n. pos 0 ≤ℤ (n +ℤ pos all)) (λ e. omega (arith, ints, more, pairs)) (omega (arith, ints, more, pairs, first, cost))
 
+-- a start that comes first costs the changeover to it
+opening_cost : (plant : Plant) (unit : ℕ) (plan : List Start) (a : Start) → a.unit ≡ unit → is_first plan a ≡ true → first_change plant plan a ≡ first_cost plant unit a.task
+unfolding first_change
+opening_cost plant unit plan a on first = cond-true {A = ℕ} (is_first plan a) (first_cost plant a.unit a.task) 0 first ∙ ap (λ u. first_cost plant u a.task) on
+
 -- the setup of starts earns no less than what their changeovers cost, negated
-pub costs-setup : (plant : Plant) (unit : ℕ) (plan starts : List Start) → FollowAll plant unit plan starts → All (λ c. c.unit ≡ unit) starts →
-    pos 0 ≤ℤ (total (setup_profit plant unit) (setup_of starts) +ℤ pos (pairs_sum (changeover plant plan) starts))
-costs-setup plant unit plan [] follows on = omega (arith, ints)
-costs-setup plant unit plan (a ∷ rest) follows on = omega (arith, ints, costs_along plant unit plan a rest follows on)
+pub costs-setup : (plant : Plant) (unit : ℕ) (plan starts : List Start) → FollowAll plant unit plan starts → Opens plan starts → All (λ c. c.unit ≡ unit) starts →
+    pos 0 ≤ℤ (total (setup_profit plant unit) (setup_of starts) +ℤ pos (pairs_sum (changeover plant plan) starts + sum_by (first_change plant plan) starts))
+costs-setup plant unit plan [] follows opens on = omega (arith, ints)
+costs-setup plant unit plan (a ∷ rest) follows opens on =
+    let first = opening_cost plant unit plan a (All-head (λ c. c.unit ≡ unit) a rest on) opens in
+    omega (arith, ints, costs_along plant unit plan a rest follows on, first, sum_by-cons (first_change plant plan) a rest)

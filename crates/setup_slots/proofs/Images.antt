@@ -11,7 +11,7 @@ use Rattle.stn_model.specs.declared.start.Start.{Start}
 use Rattle.stn_model.specs.Feasible.{Feasible}
 use Rattle.stn_model.specs.Fits.{Fits}
 use Rattle.stn_model.specs.Plant.{end_of}
-use Rattle.stn_model.specs.Profit.{change_costs, changeover}
+use Rattle.stn_model.specs.Profit.{change_costs, changeover, first_change}
 use Rattle.stn_model.specs.Sound.{Sound}
 use Rattle.stn_model.specs.Sums.{total}
 use Rattle.time_grid.specs.PlanPoint.{HasPoint, plan_point}
@@ -26,7 +26,7 @@ use Rattle.row_kit.specs.Row.{IsKept, entries_sum, parts_sum}
 use Rattle.setup_slots.specs.declared.setup.SetupRow.{SetupRow}
 use Rattle.setup_slots.specs.declared.setup.SetupRow.TheVariants.{Single, Held, Begun}
 use Rattle.setup_slots.specs.declared.setup.SetupSlot.{SetupSlot}
-use Rattle.setup_slots.specs.Image.{is_same, plan_setup, setup_image, setup_of, starts_before, unit_costs}
+use Rattle.setup_slots.specs.Image.{is_same, plan_setup, setup_image, setup_of, start_changes, starts_before, unit_costs}
 use Rattle.setup_slots.specs.Larger.{setup_domain}
 use Rattle.setup_slots.specs.Law.{BeginsWith, SetupsHaveImages, UnitCostsLess}
 use Rattle.setup_slots.specs.Rows.{begun_rows, fixed_part, held_rows, is_change_to, most_of, profit_entries, row_over, rows_among, setup_part, setup_profit, setup_row, setup_rows, slot_part}
@@ -35,7 +35,7 @@ use Rattle.setup_slots.proofs.Costs.{costs-setup, pairs_sum}
 use Rattle.setup_slots.proofs.Events.{AreOn, events-once}
 use Rattle.setup_slots.proofs.Exchange.{exchange}
 use Rattle.setup_slots.proofs.Points.{IsBehind, profit-sum, row-sum, slots-begun, slots-held, slots-single, sum-append, sum-first}
-use Rattle.setup_slots.proofs.Starts.{All-starts, is_before, period_less, starts-follow, starts-on, starts-sum}
+use Rattle.setup_slots.proofs.Starts.{All-starts, is_before, period_less, starts-follow, starts-on, starts-open, starts-sum, sum_by-two}
 use Rattle.setup_slots.proofs.Steps.{FollowAll, begun-setup, held-setup, is_running, is_start, running-most, setup-once, single-setup}
 
 -- values that lie in domains, one part after the other
@@ -229,20 +229,27 @@ starts_less : (unit : ℕ) (plan : List Start) (n : ℕ) (f : Start → ℕ) →
 starts_less unit plan n f =
     omega (arith, starts-sum unit plan f n, sum_by-le-sum_by (λ a. cond (is_before unit n a) (f a) 0) f plan (λ a. cond_all (is_before unit n a) (f a)))
 
-pub pairs-less : (plant : Plant) (unit : ℕ) (plan : List Start) → pairs_sum (changeover plant plan) (own_starts plant unit plan) ≤ unit_costs plant unit plan
+own-less : (plant : Plant) (unit : ℕ) (plan : List Start) → pairs_sum (changeover plant plan) (own_starts plant unit plan) + sum_by (first_change plant plan) (own_starts plant unit plan) ≤ unit_costs plant unit plan
 unfolding unit_costs
-pairs-less plant unit plan =
+own-less plant unit plan =
     let n = plant.periods in
     let starts = starts_before unit plan n in
-    let f : Start → ℕ = λ a. sum_by (changeover plant plan a) plan in
-    let inner = sum_by-le-sum_by (λ a. sum_by (changeover plant plan a) starts) f starts (λ a. starts_less unit plan n (changeover plant plan a)) in
+    let f = start_changes plant plan in
+    let own : Start → ℕ = λ a. sum_by (changeover plant plan a) starts in
+    let inner = sum_by-le-sum_by (λ a. own a + first_change plant plan a) f starts (λ a. omega (arith, starts_less unit plan n (changeover plant plan a))) in
     let outer = sum_by-le-sum_by (λ a. cond (is_before unit n a) (f a) 0) (λ a. cond (a.unit == unit) (f a) 0) plan (λ a. cond_most (a.unit == unit) (nat_lt a.period n) (f a)) in
-    omega (arith, inner, starts-sum unit plan f n, outer)
+    omega (arith, sum_by-two own (first_change plant plan) starts, inner, starts-sum unit plan f n, outer)
+
+-- what all changeovers cost, start by start
+pub costs-are : (plant : Plant) (plan : List Start) → change_costs plant plan ≡ sum_by (start_changes plant plan) plan
+unfolding change_costs
+costs-are plant plan = sym (sum_by-two (λ a. sum_by (changeover plant plan a) plan) (first_change plant plan) plan)
 
 pub costs-less : UnitCostsLess
-unfolding unit_costs change_costs
+unfolding unit_costs
 costs-less plant unit plan =
-    sum_by-le-sum_by (λ a. cond (a.unit == unit) (sum_by (changeover plant plan a) plan) 0) (λ a. sum_by (changeover plant plan a) plan) plan (λ a. cond_all (a.unit == unit) (sum_by (changeover plant plan a) plan))
+    let f = start_changes plant plan in
+    omega (arith, costs-are plant plan, sum_by-le-sum_by (λ a. cond (a.unit == unit) (f a) 0) f plan (λ a. cond_all (a.unit == unit) (f a)))
 
 -- the image's value
 profit_at_image : (plant : Plant) (unit : ℕ) (plan : List Start) (first : ℕ) (point : List ℕ) → IsPlaced plant unit plan first point →
@@ -250,8 +257,8 @@ profit_at_image : (plant : Plant) (unit : ℕ) (plan : List Start) (first : ℕ)
 profit_at_image plant unit plan first point is =
     let sum = profit-sum plant unit first point (setup_image plant unit plan) is.long (image_length plant unit plan) in
     let image = image_sum plant unit plan first point is (setup_profit plant unit) in
-    let costs = costs-setup plant unit plan (own_starts plant unit plan) (follow plant unit plan first point is) (starts-on unit plan plant.periods) in
-    omega (arith, ints, sum, image, costs, pairs-less plant unit plan)
+    let costs = costs-setup plant unit plan (own_starts plant unit plan) (follow plant unit plan first point is) (starts-open plant unit plan is.sound is.feasible) (starts-on unit plan plant.periods) in
+    omega (arith, ints, sum, image, costs, own-less plant unit plan)
 
 -- rows of the given program are kept as before
 old_kept : (program : Program) (point more : List ℕ) → length point ≡ length program.root → All (IsKept point) program.rows → All (IsKept (point ++ more)) program.rows

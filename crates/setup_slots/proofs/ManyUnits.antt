@@ -10,19 +10,19 @@ use Rattle.std.proofs.lemmas.List.Elements.{All-cons, All-nil, All-weaker, All-h
 use Rattle.std.proofs.lemmas.List.Sums.{sum_by-cons, sum_by-le-sum_by}
 use Rattle.stn_model.specs.declared.plant.Plant.{Plant}
 use Rattle.stn_model.specs.declared.start.Start.{Start}
-use Rattle.stn_model.specs.Profit.{change_costs, changeover}
 use Rattle.time_grid.specs.Slots.{slots}
 use Rattle.row_kit.specs.declared.domain.Domain.{Domain}
 use Rattle.row_kit.specs.declared.program.Program.{Program}
 use Rattle.row_kit.specs.declared.row.Row.{Row}
 use Rattle.row_kit.specs.Point.{value_of}
-use Rattle.setup_slots.specs.Image.{setup_image, unit_costs}
+use Rattle.setup_slots.specs.Image.{setup_image, start_changes, unit_costs}
 use Rattle.setup_slots.specs.Larger.{HasPlantSlots, HasRoom, IsWithSetups, setup_domain}
 use Rattle.setup_slots.specs.Law.{BeginsWith, HasSetupImages, SeveralCostLess, SeveralHaveImages}
 use Rattle.setup_slots.specs.Rows.{setup_row, setup_rows}
 use Rattle.setup_slots.specs.Several.{AreSetUp, HaveRoom, costs_on, domains_with, rows_with, set_up, slots_with}
 use Rattle.setup_slots.specs.Slots.{setup_slots, task_slot, task_slots}
-use Rattle.setup_slots.proofs.Images.{law}
+use Rattle.setup_slots.proofs.Images.{costs-are, law}
+use Rattle.setup_slots.proofs.Starts.{sum_by-two}
 
 -- ---- what a program with setups begins with
 
@@ -131,28 +131,23 @@ counted-once n u (unit ∷ units) up =
       | inr f ↦ rw f (omega (arith, counted-once n u units (increasing-rest unit units up)))
     ]
 
-sum_of_both : (f g : Start → ℕ) (plan : List Start) → sum_by f plan + sum_by g plan ≡ sum_by (λ a. f a + g a) plan
-sum_of_both f g [] = refl
-sum_of_both f g (a ∷ plan) = omega (arith, sum_by-cons f a plan, sum_by-cons g a plan, sum_by-cons (λ x. f x + g x) a plan, sum_of_both f g plan)
-
 sum_of_none : (plan : List Start) → 0 ≡ sum_by (λ (a : Start). 0) plan
 sum_of_none [] = refl
 sum_of_none (a ∷ plan) = omega (arith, sum_by-cons (λ (x : Start). 0) a plan, sum_of_none plan)
 
 -- what the changeovers on units cost, start by start
-costs-counted : (plant : Plant) (units : List ℕ) (plan : List Start) → costs_on plant units plan ≡ sum_by (λ a. counted_at (sum_by (changeover plant plan a) plan) a.unit units) plan
+costs-counted : (plant : Plant) (units : List ℕ) (plan : List Start) → costs_on plant units plan ≡ sum_by (λ a. counted_at (start_changes plant plan a) a.unit units) plan
 unfolding unit_costs
 costs-counted plant [] plan = sum_of_none plan
 costs-counted plant (unit ∷ units) plan =
-    let f : Start → ℕ = λ a. sum_by (changeover plant plan a) plan in
+    let f = start_changes plant plan in
     ap (λ (n : ℕ). unit_costs plant unit plan + n) (costs-counted plant units plan)
-    ∙ sum_of_both (λ a. cond (a.unit == unit) (f a) 0) (λ a. counted_at (f a) a.unit units) plan
+    ∙ sym (sum_by-two (λ a. cond (a.unit == unit) (f a) 0) (λ a. counted_at (f a) a.unit units) plan)
 
 pub several-costs : SeveralCostLess
-unfolding change_costs
 several-costs plant units plan up =
-    let f : Start → ℕ = λ a. sum_by (changeover plant plan a) plan in
-    omega (arith, costs-counted plant units plan, sum_by-le-sum_by (λ a. counted_at (f a) a.unit units) f plan (λ a. counted-once (f a) a.unit units up))
+    let f = start_changes plant plan in
+    omega (arith, costs-are plant plan, costs-counted plant units plan, sum_by-le-sum_by (λ a. counted_at (f a) a.unit units) f plan (λ a. counted-once (f a) a.unit units up))
 
 -- ---- room
 

@@ -10,7 +10,7 @@ use Rattle.row_kit.specs.declared.row.Change.{Change}
 use Rattle.row_kit.specs.declared.row.Entry.{Entry}
 use Rattle.row_kit.specs.declared.row.Row.{Row}
 use Rattle.row_kit.specs.declared.row.Tag.{Tag}
-use Rattle.row_kit.specs.Bounds.{AreBounded, IsBoundedChange, IsBoundedRow, KeepsBounds}
+use Rattle.row_kit.specs.Bounds.{AreBounded, IsBoundedChange, IsBoundedRow, IsBoundedTag, KeepsBounds}
 use Rattle.row_kit.specs.Domain.{IsNormal}
 
 -- programs with the same parts are the same
@@ -30,6 +30,7 @@ same-program a b rows profit base root tags changes = λ i. record {
   base_bounded = is_prop→PathP (λ j. unsigned_abs (base j) ≤ 10000000000000000000000) (λ j. hlevel props) a.base_bounded b.base_bounded i;
   one_tag = is_prop→PathP (λ j. length (tags j) ≡ length (root j)) (λ j. hlevel props) a.one_tag b.one_tag i;
   costs_bounded = is_prop→PathP (λ j. All IsBoundedChange (changes j)) (λ j. hlevel props) a.costs_bounded b.costs_bounded i;
+  openings_bounded = is_prop→PathP (λ j. All IsBoundedTag (tags j)) (λ j. hlevel props) a.openings_bounded b.openings_bounded i;
 }
 
 own_bounds : (program : Program) → KeepsBounds program.rows program.profit program.base program.root program.tags program.changes
@@ -42,6 +43,7 @@ own_bounds program = record {
   base_bounded = program.base_bounded;
   one_tag = program.one_tag;
   costs_bounded = program.costs_bounded;
+  openings_bounded = program.openings_bounded;
 }
 
 -- parts that are a program's keep its bounds

@@ -9,7 +9,7 @@ use Rattle.std.proofs.lemmas.List.Kept.{AllPairs-filter}
 use Rattle.std.proofs.lemmas.List.Sums.{list_all-from_AllPass, sum_by-append, sum_by-cons}
 use Rattle.stn_model.specs.declared.plant.Plant.{Plant}
 use Rattle.stn_model.specs.declared.start.Start.{Start}
-use Rattle.stn_model.specs.Batches.{Apart, Cleaned, is_amid, is_next}
+use Rattle.stn_model.specs.Batches.{Apart, Cleaned, is_amid, is_earlier, is_first, is_next}
 use Rattle.stn_model.specs.Feasible.{Feasible}
 use Rattle.stn_model.specs.Fits.{Fits}
 use Rattle.stn_model.specs.Plant.{end_of, gap_between}
@@ -25,7 +25,7 @@ use Rattle.setup_slots.proofs.Steps.{FollowAll, Follows, Step}
 abbrev pub is_before : ℕ → ℕ → Start → Bool
 is_before unit periods start = start.unit == unit && nat_lt start.period periods
 
-sum_by-two : {X : Type 0} (f g : X → ℕ) (xs : List X) → sum_by (λ x. f x + g x) xs ≡ sum_by f xs + sum_by g xs
+pub sum_by-two : {X : Type 0} (f g : X → ℕ) (xs : List X) → sum_by (λ x. f x + g x) xs ≡ sum_by f xs + sum_by g xs
 sum_by-two f g [] = refl
 sum_by-two f g (x ∷ xs) = omega (arith, sum_by-cons (λ y. f y + g y) x xs, sum_by-cons f x xs, sum_by-cons g x xs, sum_by-two f g xs)
 
@@ -110,6 +110,15 @@ starts-rise plant unit plan n sound is =
     omega (arith, less, a_at, b_at))
     (range_with_len 0 n) (AllPairs-range 0 n)
 
+-- what stands at a place of a list is among its items
+contains_at : (xs : List Start) (k : ℕ) (d : Start) → k < length xs → Contains xs (get_or xs k d)
+contains_at xs k d l = (k, l, get_or-same xs k d l)
+  where
+    get_or-same : (xs : List Start) (i : ℕ) (d : Start) → i < length xs → get_or xs i (get_or xs i d) ≡ get_or xs i d
+    get_or-same [] i d l = absurd (omega arith)
+    get_or-same (x ∷ xs) zero d l = refl
+    get_or-same (x ∷ xs) (suc i) d l = get_or-same xs i d (omega arith)
+
 -- the starts of the plan on the unit after a start are all among those that follow it
 abbrev Covers : ℕ → List Start → Start → List Start → Type 0
 Covers unit plan a rest = (c : Start) → Contains plan c → c.unit ≡ unit → a.period < c.period → Contains rest c
@@ -123,15 +132,10 @@ none_amid unit plan a b rest on covers later k d l =
     let first = and_parts (c.unit == a.unit) (nat_lt a.period c.period) both.0 in
     let after = ltb-true a.period c.period first.1 in
     let before = ltb-true c.period b.period both.1 in
-    elim (Contains-cases b rest c (covers c (k, l, get_or-same plan k d c l) (eqb-true c.unit a.unit first.0 ∙ on) after)) [
+    elim (Contains-cases b rest c (covers c (contains_at plan k d l) (eqb-true c.unit a.unit first.0 ∙ on) after)) [
       | inl e ↦ omega (arith, before, ap (λ (s : Start). s.period) e)
       | inr there ↦ let much = All-contains (IsEarlier b) rest c later there in omega (arith, before, much)
     ]))
-  where
-    get_or-same : (xs : List Start) (i : ℕ) (d c : Start) → i < length xs → get_or xs i (get_or xs i d) ≡ get_or xs i d
-    get_or-same [] i d c l = absurd (omega arith)
-    get_or-same (x ∷ xs) zero d c l = refl
-    get_or-same (x ∷ xs) (suc i) d c l = get_or-same xs i d c (omega arith)
 
 -- what the starts on the unit, which begin with one, keep
 record Keeps (plant : Plant) (unit : ℕ) (plan : List Start) (a : Start) (rest : List Start) : Type 0 where
@@ -203,11 +207,43 @@ all_follow plant unit plan (a ∷ rest) on rise have cleaned =
       cleaned = cleaned;
     })
 
+all_there : (plant : Plant) (unit : ℕ) (plan : List Start) → Sound plant → Feasible plant plan → (c : Start) → Contains plan c → c.unit ≡ unit → Contains (starts_before unit plan plant.periods) c
+all_there plant unit plan sound is c there on = starts-have unit plan plant.periods c there on (All-contains (λ a. a.period < plant.periods) plan c (period_less plant plan sound is) there)
+
 -- the starts of a feasible plan on the unit follow one another
 pub starts-follow : (plant : Plant) (unit : ℕ) (plan : List Start) → Sound plant → Feasible plant plan → FollowAll plant unit plan (starts_before unit plan plant.periods)
 starts-follow plant unit plan sound is =
     let starts = starts_before unit plan plant.periods in
     all_follow plant unit plan starts (starts-on unit plan plant.periods) (starts-rise plant unit plan plant.periods sound is)
-    (λ c there on. starts-have unit plan plant.periods c there on (All-contains (λ a. a.period < plant.periods) plan c (period_less plant plan sound is) there))
+    (all_there plant unit plan sound is)
     (All-starts (λ c. All (Cleaned plant plan c) starts) unit plan plant.periods
     (All-weaker (λ c. All (Cleaned plant plan c) plan) (λ c. All (Cleaned plant plan c) starts) (λ c all. All-starts (Cleaned plant plan c) unit plan plant.periods all) plan is.cleaned))
+
+-- the first of some starts comes first in the plan
+abbrev pub Opens : List Start → List Start → Type 0
+Opens plan [] = Unit {0}
+Opens plan (a ∷ rest) = is_first plan a ≡ true
+
+first_from : (plan : List Start) (a : Start) → All (λ c. not (is_earlier c a) ≡ true) plan → is_first plan a ≡ true
+unfolding is_first
+first_from plan a none = list_all-from_AllPass (λ c. not (is_earlier c a)) plan none
+
+none_earlier : (unit : ℕ) (plan : List Start) (a : Start) (rest : List Start) → a.unit ≡ unit → AllPairs IsEarlier (a ∷ rest) → ((c : Start) → Contains plan c → c.unit ≡ unit → Contains (a ∷ rest) c) → All (λ c. not (is_earlier c a) ≡ true) plan
+none_earlier unit plan a rest on rise have k d l =
+    let c = get_or plan k d in
+    ap not (false_from_ne_true (is_earlier c a) (λ t.
+    let both = and_parts (c.unit == a.unit) (nat_lt c.period a.period) t in
+    let before = ltb-true c.period a.period both.1 in
+    elim (Contains-cases a rest c (have c (contains_at plan k d l) (eqb-true c.unit a.unit both.0 ∙ on))) [
+      | inl e ↦ omega (arith, before, ap (λ (s : Start). s.period) e)
+      | inr there ↦ let after = All-contains (IsEarlier a) rest c (AllPairs-head IsEarlier a rest rise) there in omega (arith, before, after)
+    ]))
+
+all_open : (unit : ℕ) (plan starts : List Start) → All (λ c. c.unit ≡ unit) starts → AllPairs IsEarlier starts → ((c : Start) → Contains plan c → c.unit ≡ unit → Contains starts c) → Opens plan starts
+all_open unit plan [] on rise have = tt
+all_open unit plan (a ∷ rest) on rise have = first_from plan a (none_earlier unit plan a rest (All-head (λ c. c.unit ≡ unit) a rest on) rise have)
+
+-- the first of a feasible plan's starts on the unit comes first in the plan
+pub starts-open : (plant : Plant) (unit : ℕ) (plan : List Start) → Sound plant → Feasible plant plan → Opens plan (starts_before unit plan plant.periods)
+starts-open plant unit plan sound is =
+    all_open unit plan (starts_before unit plan plant.periods) (starts-on unit plan plant.periods) (starts-rise plant unit plan plant.periods sound is) (all_there plant unit plan sound is)

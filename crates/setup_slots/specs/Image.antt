@@ -1,9 +1,9 @@
 -- The image of a plan in a unit's setup.
-use Rattle.std.specs.Prelude.{ℕ, ◌==◌, ◌&&◌, Bool, false, if◌then◌else◌, List, [], ◌∷◌, filter, map, count_by, sum_by}
+use Rattle.std.specs.Prelude.{ℕ, ◌+◌, ◌==◌, ◌&&◌, Bool, false, if◌then◌else◌, List, [], ◌∷◌, filter, map, count_by, sum_by}
 use Rattle.std.specs.List.{flat_map, range_with_len}
 use Rattle.stn_model.specs.declared.plant.Plant.{Plant}
 use Rattle.stn_model.specs.declared.start.Start.{Start}
-use Rattle.stn_model.specs.Profit.{changeover}
+use Rattle.stn_model.specs.Profit.{changeover, first_change}
 use Rattle.setup_slots.specs.declared.setup.SetupSlot.{SetupSlot}
 use Rattle.setup_slots.specs.declared.setup.SetupSlot.TheVariants.{First, Change}
 use Rattle.setup_slots.specs.Slots.{setup_slots}
@@ -42,6 +42,10 @@ plan_setup plant unit plan = setup_of (starts_before unit plan plant.periods)
 unfoldable pub setup_image : Plant → ℕ → List Start → List ℕ
 setup_image plant unit plan = map (λ slot. count_by (is_same slot) (plan_setup plant unit plan)) (setup_slots plant unit)
 
+-- what the changeovers of a start cost: those from it, and where it comes first on its unit the one to it
+abbrev pub start_changes : Plant → List Start → Start → ℕ
+start_changes plant plan start = sum_by (changeover plant plan start) plan + first_change plant plan start
+
 -- what a plan's changeovers on the unit cost
 unfoldable pub unit_costs : Plant → ℕ → List Start → ℕ
-unit_costs plant unit plan = sum_by (λ start. if start.unit == unit then sum_by (changeover plant plan start) plan else 0) plan
+unit_costs plant unit plan = sum_by (λ start. if start.unit == unit then start_changes plant plan start else 0) plan

@@ -14,7 +14,7 @@ setup_domain = record { zero = true; lo = 1; hi = 1 }
 
 -- the tag of a setup's slot in a lane
 abbrev pub setup_tag : ℕ → Tag
-setup_tag lane = record { lane = lane; place = 0; kind = 0 }
+setup_tag lane = record { lane = lane; place = 0; kind = 0; opening = 0 }
 
 -- a program begins with the slots of the plant
 abbrev pub HasPlantSlots : Plant → Program → Type 0

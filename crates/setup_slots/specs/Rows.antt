@@ -2,7 +2,7 @@
 use Rattle.std.specs.Prelude.{ℕ, ◌-◌, ◌==◌, ◌&&◌, nat_le, nat_lt, Bool, false, if◌then◌else◌, List, [], ◌∷◌, ◌++◌, filter, length, map, replicate, ℤ, pos, neg_ℤ, ◌-ℤ◌}
 use Rattle.std.specs.List.{flat_map, list_any, range_with_len}
 use Rattle.stn_model.specs.declared.plant.Plant.{Plant}
-use Rattle.stn_model.specs.Plant.{cost_between}
+use Rattle.stn_model.specs.Plant.{cost_between, first_cost}
 use Rattle.row_kit.specs.declared.row.Entry.{Entry}
 use Rattle.row_kit.specs.declared.row.Row.{Row}
 use Rattle.row_kit.specs.Row.{entries_from}
@@ -83,9 +83,10 @@ row_over slots setups unit first row = record { entries = entries_from 0 (row_pa
 abbrev pub setup_row : Plant → ℕ → ℕ → SetupRow → Row
 setup_row plant unit first row = row_over (task_slots plant) (setup_slots plant unit) unit first row
 
--- what a slot of the setup earns: a change the greatest cost that is listed for it, negated
+-- What a slot of the setup earns: a first task what the changeover to it costs from the batch that held the unit last, and a change the
+-- greatest cost that is listed for it, both negated.
 abbrev pub setup_profit : Plant → ℕ → SetupSlot → ℤ
-setup_profit plant unit (First task) = pos 0
+setup_profit plant unit (First task) = neg_ℤ (pos (first_cost plant unit task))
 setup_profit plant unit (Change from to period) = neg_ℤ (pos (cost_between plant unit from to))
 
 -- what the slots of a unit's setup earn, numbered from one on

@@ -10,7 +10,7 @@ use crate::setup::{SetupRow, SetupSlot};
 use crate::task_slot::TaskSlot;
 use row_kit::{Entry, List, Row, entries_of};
 use std::alloc::{AllocError, Global};
-use stn_model::{Plant, change_cost};
+use stn_model::{Plant, change_cost, first_cost};
 
 // A row of a unit's setup, whose slots are numbered from one on.
 pub fn row_over(
@@ -213,12 +213,12 @@ fn push_profits(
     Ok(())
 }
 
-// What a slot of a setup earns: a change what it costs, negated.
+// What a slot of a setup earns: a first task and a change what they cost, negated.
 fn setup_profit(plant: &Plant, unit: u32, slot: &SetupSlot) -> i64
     ensures { result ≡ setup_profit plant.now unit slot.now }
 {
     match slot {
-        SetupSlot::First(_) => 0,
+        SetupSlot::First(task) => 0 - i64::from(first_cost(plant, unit, *task)),
         SetupSlot::Change(from, to, _) => 0 - i64::from(change_cost(plant, unit, *from, *to)),
     }
 }

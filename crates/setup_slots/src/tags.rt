@@ -44,6 +44,7 @@ fn setup_tag(lane: u32) -> Tag
         lane,
         place: 0,
         kind: 0,
+        opening: 0,
     }
 }
 

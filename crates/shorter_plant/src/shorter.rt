@@ -1,22 +1,25 @@
 //! The plant within a shorter horizon.
-ghost use Rattle.std.specs.Prelude.{◌≡◌, map, IfOk};
+ghost use Rattle.std.specs.Prelude.{◌≡◌, ◌≤◌, map, option_map, IfOk};
 ghost use Rattle.stn_model.specs.Sound.{Sound, Within};
 ghost use Rattle.shorter_plant.specs.PlantAt.{
   plant_at,
   state_until,
   utility_until,
+  last_until,
+  unit_until,
   receipts_until,
   delivered_at,
   outage_until,
   outages_until,
 };
 
-use plant_copies::{copied, first, state_copy, tasks, units, utility_copy};
+use plant_copies::{copied, first, state_copy, tasks, unit_copy, utility_copy};
 use std::alloc::{AllocError, Global};
-use stn_model::{Delivery, List, Outage, Plant, Receipt, State, Utility};
+use stn_model::{Delivery, Last, List, Outage, Plant, Receipt, State, StnUnit, Utility};
 
 /// The plant within a horizon of 1 to its own periods. It ends at the horizon and all its deliveries are due then; later
-/// receipts are left out, and so are later limits and the part of an outage that is later. It takes memory for a whole plant.
+/// receipts are left out, and so are later limits and the part of an outage that is later. A batch that held a unit last
+/// ends by the horizon. It takes memory for a whole plant.
 pub fn plant_at(alloc: Global, plant: &Plant, horizon: u32) -> Result<Plant, AllocError>
     requires sound { Sound plant.now }
     requires within { Within 1 plant.now.periods horizon }
@@ -29,6 +32,7 @@ pub fn plant_at(alloc: Global, plant: &Plant, horizon: u32) -> Result<Plant, All
 // The plant within the horizon.
 #[tactic(auto, unfolding(crate::specs::PlantAt::plant_at))]
 fn made(alloc: Global, plant: &Plant, horizon: u32) -> Result<Plant, AllocError>
+    requires { horizon ≤ 336 }
     ensures { IfOk result (λ short. short ≡ plant_at plant.now horizon) }
 {
     Ok(Plant {
@@ -36,7 +40,7 @@ fn made(alloc: Global, plant: &Plant, horizon: u32) -> Result<Plant, AllocError>
         periods: horizon,
         states: states_until(alloc, plant.states.as_slice(), horizon)?,
         utilities: utilities_until(alloc, plant.utilities.as_slice(), horizon)?,
-        units: units(alloc, plant.units.as_slice())?,
+        units: units_until(alloc, plant.units.as_slice(), horizon)?,
         tasks: tasks(alloc, plant.tasks.as_slice())?,
         runs: copied(alloc, plant.runs.as_slice())?,
         gaps: copied(alloc, plant.gaps.as_slice())?,
@@ -72,6 +76,34 @@ fn utilities_until(
         let mut copy = utility_copy(alloc, utility)?;
         copy.limits = first(alloc, utility.limits.as_slice(), horizon as usize)?;
         copy.rates = first(alloc, utility.rates.as_slice(), horizon as usize)?;
+        list.push(copy)?;
+    }
+    Ok(list)
+}
+
+// The batch that held a unit last, which ends by the horizon.
+fn last_until(last: Option<Last>, horizon: u32) -> Option<Last>
+    requires { horizon ≤ 336 }
+    ensures { result ≡ option_map (last_until horizon) last }
+{
+    match last {
+        Some(last) => Some(Last {
+            task: last.task,
+            until: last.until.min(horizon as i32),
+        }),
+        None => None,
+    }
+}
+
+// The units, whose last batches end by the horizon.
+fn units_until(alloc: Global, units: &[StnUnit], horizon: u32) -> Result<List<StnUnit>, AllocError>
+    requires { horizon ≤ 336 }
+    ensures { IfOk result (λ list. list ≡ map (unit_until horizon) units.now) }
+{
+    let mut list = List::new(alloc);
+    for unit in units {
+        let mut copy = unit_copy(alloc, unit)?;
+        copy.last = last_until(unit.last, horizon);
         list.push(copy)?;
     }
     Ok(list)

@@ -1,10 +1,11 @@
 -- What the records of a plant say of its runs, durations, gaps and outages.
-use Rattle.std.specs.Prelude.{ℕ, ℤ, pos, ◌+◌, ◌==◌, ◌&&◌, ◌||◌, not, nat_le, Bool, List, [], Option, find, map, position, if◌then◌else◌, slice_index_or}
+use Rattle.std.specs.Prelude.{ℕ, ℤ, pos, negsuc, ◌+◌, ◌+ℤ◌, ◌==◌, ◌&&◌, ◌||◌, not, nat_le, Bool, List, [], Option, Some, None, find, map, position, if◌then◌else◌, slice_index_or}
 use Rattle.std.specs.List.{list_all}
 use Rattle.stn_model.specs.declared.plant.Plant.{Plant}
 use Rattle.stn_model.specs.declared.plant.State.{State}
 use Rattle.stn_model.specs.declared.plant.Utility.{Utility}
 use Rattle.stn_model.specs.declared.plant.StnUnit.{StnUnit}
+use Rattle.stn_model.specs.declared.plant.Last.{Last}
 use Rattle.stn_model.specs.declared.plant.Task.{Task}
 use Rattle.stn_model.specs.declared.plant.Run.{Run}
 use Rattle.stn_model.specs.declared.plant.Gap.{Gap}
@@ -26,7 +27,7 @@ no_utility = record { name = []; limits = []; rate = pos 0; rates = [] }
 
 -- a unit without a name, in the place of one that is not there
 abbrev pub no_unit : StnUnit
-no_unit = record { name = [] }
+no_unit = record { name = []; last = None }
 
 -- a run of nothing, in the place of one that is not there
 abbrev pub no_run : Run
@@ -91,6 +92,38 @@ gap_between plant unit from to = greatest_by (λ gap. if is_between unit from to
 -- what the changeover of the unit between the tasks costs: the most that is listed for them
 unfoldable pub cost_between : Plant → ℕ → ℕ → ℕ → ℕ
 cost_between plant unit from to = greatest_by (λ gap. if is_between unit from to gap then gap.cost else 0) plant.gaps
+
+-- a time counted from the begin, and 0 for one before it
+abbrev pub from_begin : ℤ → ℕ
+from_begin (pos n) = n
+from_begin (negsuc n) = 0
+
+-- the time until which this batch goes on, which held a unit last; 0 where none held it
+abbrev pub until_of : Option Last → ℕ
+until_of None = 0
+until_of (Some last) = from_begin last.until
+
+-- the time until which the batch goes on that held the unit last; 0 where none held it, or where it was over before
+unfoldable pub held_until : Plant → ℕ → ℕ
+held_until plant unit = until_of (unit_at plant unit).last
+
+-- the first time at which a batch of the task may begin that follows this one, which held the unit last; 0 where none held it
+abbrev pub ready_after : Plant → ℕ → ℕ → Option Last → ℕ
+ready_after plant unit task None = 0
+ready_after plant unit task (Some last) = from_begin (last.until +ℤ pos (gap_between plant unit last.task task))
+
+-- the first time at which a first batch of the task may begin on the unit: after the batch that held it last, and the cleaning
+unfoldable pub ready_at : Plant → ℕ → ℕ → ℕ
+ready_at plant unit task = ready_after plant unit task (unit_at plant unit).last
+
+-- what a changeover to the task costs from the batch that held the unit last; 0 where none held it
+abbrev pub cost_after : Plant → ℕ → ℕ → Option Last → ℕ
+cost_after plant unit task None = 0
+cost_after plant unit task (Some last) = cost_between plant unit last.task task
+
+-- what the changeover to a first batch of the task costs on the unit
+unfoldable pub first_cost : Plant → ℕ → ℕ → ℕ
+first_cost plant unit task = cost_after plant unit task (unit_at plant unit).last
 
 -- the outage is of another unit, begins at the later time or after it, or is over by the earlier one
 abbrev pub is_clear_of : ℕ → ℕ → ℕ → Outage → Bool

@@ -1,10 +1,10 @@
 -- What a plan earns, in money.
-use Rattle.std.specs.Prelude.{ℕ, ℤ, pos, ◌*ℤ◌, ◌-ℤ◌, ◌+ℤ◌, if◌then◌else◌, Option, Some, None, List, length, sum_by}
+use Rattle.std.specs.Prelude.{ℕ, ℤ, pos, ◌+◌, ◌*ℤ◌, ◌-ℤ◌, ◌+ℤ◌, if◌then◌else◌, Option, Some, None, List, length, sum_by}
 use Rattle.stn_model.specs.declared.plant.Plant.{Plant}
 use Rattle.stn_model.specs.declared.plant.Run.{Run}
 use Rattle.stn_model.specs.declared.start.Start.{Start}
-use Rattle.stn_model.specs.Plant.{state_at, utility_at, rate_in, run_on, cost_between}
-use Rattle.stn_model.specs.Batches.{is_next}
+use Rattle.stn_model.specs.Plant.{state_at, utility_at, rate_in, run_on, cost_between, first_cost}
+use Rattle.stn_model.specs.Batches.{is_first, is_next}
 use Rattle.stn_model.specs.Stock.{stock}
 use Rattle.stn_model.specs.Load.{load}
 use Rattle.stn_model.specs.Sums.{total, total_below}
@@ -38,9 +38,13 @@ start_cost plant plan = total (λ start. cost_of (run_on plant start.task start.
 unfoldable pub changeover : Plant → List Start → Start → Start → ℕ
 changeover plant plan a b = if is_next plan a b then cost_between plant a.unit a.task b.task else 0
 
--- what the changeovers cost
+-- what the changeover to b costs from the batch that held its unit last, where b comes first on it
+unfoldable pub first_change : Plant → List Start → Start → ℕ
+first_change plant plan b = if is_first plan b then first_cost plant b.unit b.task else 0
+
+-- what the changeovers cost: those between batches, and those to first ones
 unfoldable pub change_costs : Plant → List Start → ℕ
-change_costs plant plan = sum_by (λ a. sum_by (changeover plant plan a) plan) plan
+change_costs plant plan = sum_by (λ a. sum_by (changeover plant plan a) plan) plan + sum_by (first_change plant plan) plan
 
 -- the profit: end stocks and payments, less the costs of holding, utilities, starts and changeovers
 unfoldable pub profit : Plant → List Start → ℤ

@@ -1,10 +1,12 @@
 -- When the records of a plant make sense: each keeps its limits, names what is there, and fits the others.
-use Rattle.std.specs.Prelude.{◌≡◌, ◌≢◌, ℕ, pos, ◌*◌, ◌<◌, ◌≤◌, ◌⊎◌, ◌||◌, ◌&&◌, ◌==◌, nat_le, Bool, false, IsTrue, List, [], ◌∷◌, length, All, AllPairs, sum_by, unsigned_abs, suc}
+use Rattle.std.specs.Prelude.{◌≡◌, ◌≢◌, ℕ, pos, negsuc, ◌*◌, ◌<◌, ◌≤◌, ◌≤ℤ◌, ◌⊎◌, ◌||◌, ◌&&◌, ◌==◌, nat_le, Bool, false, IsTrue, IfSome, None, List, [], ◌∷◌, length, All, AllPairs, sum_by, unsigned_abs, suc}
 use Rattle.std.specs.List.{list_all}
 use Rattle.std.specs.Char.{is_ascii_alphabetic, is_ascii_digit}
 use Rattle.stn_model.specs.declared.plant.Plant.{Plant}
 use Rattle.stn_model.specs.declared.plant.State.{State}
 use Rattle.stn_model.specs.declared.plant.Utility.{Utility}
+use Rattle.stn_model.specs.declared.plant.StnUnit.{StnUnit}
+use Rattle.stn_model.specs.declared.plant.Last.{Last}
 use Rattle.stn_model.specs.declared.plant.Task.{Task}
 use Rattle.stn_model.specs.declared.plant.Input.{Input}
 use Rattle.stn_model.specs.declared.plant.Output.{Output}
@@ -93,12 +95,23 @@ pub record SoundRun (plant : Plant) (run : Run) : Type 0 where
   pub most : run.max ≤ 255
   pub cost : unsigned_abs run.cost ≤ 1000000
 
+-- the batch that held a unit last is of a task that is there, and ends from 96 periods before the begin to the horizon
+pub record SoundLast (plant : Plant) (last : Last) : Type 0 where
+  pub task : last.task < length plant.tasks
+  pub early : negsuc 95 ≤ℤ last.until
+  pub late : last.until ≤ℤ pos plant.periods
+
+-- a unit has a name, and keeps the ranges of the batch that held it last
+pub record SoundUnit (plant : Plant) (unit : StnUnit) : Type 0 where
+  pub name : IsTrue (is_name unit.name)
+  pub last : IfSome unit.last (SoundLast plant)
+
 -- a gap is between tasks on a unit that are there
 pub record SoundGap (plant : Plant) (gap : Gap) : Type 0 where
   pub unit : gap.unit < length plant.units
   pub from : gap.from < length plant.tasks
   pub to : gap.to < length plant.tasks
-  pub periods : gap.periods ≤ 96
+  pub periods : gap.periods ≤ 336
   pub cost : gap.cost ≤ 1000000
 
 -- a receipt comes into a state that is there, by the horizon
@@ -135,7 +148,7 @@ pub record SoundCounts (plant : Plant) : Type 0 where
   pub slots : slot_count plant ≤ 4096
   pub gap_pairs : gap_pairs plant ≤ 32768
 
--- a plant that is not large has fewer of each thing, and one rate for each utility
+-- a plant that is not large has fewer of each thing, one rate for each utility, shorter gaps, and no unit that a batch held before
 pub record SmallCounts (plant : Plant) : Type 0 where
   pub states : length plant.states ≤ 40
   pub utilities : length plant.utilities ≤ 8
@@ -148,6 +161,8 @@ pub record SmallCounts (plant : Plant) : Type 0 where
   pub slots : slot_count plant ≤ 512
   pub gap_pairs : gap_pairs plant ≤ 8192
   pub rates : All (λ utility. utility.rates ≡ []) plant.utilities
+  pub gaps : All (λ gap. gap.periods ≤ 96) plant.gaps
+  pub lasts : All (λ unit. unit.last ≡ None) plant.units
 
 -- the items of one table have names of their own, and no task stands twice on one unit
 pub record SoundNames (plant : Plant) : Type 0 where
@@ -164,7 +179,7 @@ pub record Sound (plant : Plant) : Type 0 where
   pub names : SoundNames plant
   pub states : All (SoundState plant.periods) plant.states
   pub utilities : All (SoundUtility plant.periods) plant.utilities
-  pub units : All (λ unit. IsTrue (is_name unit.name)) plant.units
+  pub units : All (SoundUnit plant) plant.units
   pub tasks : All (SoundTask plant) plant.tasks
   pub runs : All (SoundRun plant) plant.runs
   pub gaps : All (SoundGap plant) plant.gaps

@@ -1,5 +1,5 @@
 //! The limits within which a plant stands, so that every sum over it fits the machine's numbers.
-ghost use Rattle.std.specs.Prelude.{◌≡◌};
+ghost use Rattle.std.specs.Prelude.{◌≡◌, negsuc};
 ghost use Rattle.stn_model.specs.Points.{slot_limit, depth_limit};
 
 use crate::plant::Plant;
@@ -79,8 +79,17 @@ pub const MAX_AMOUNT: u64 = 1_000_000_000;
 /// The greatest price, holding cost, start cost, changeover cost, utility rate or draw, in absolute value.
 pub const MAX_PRICE: u32 = 1_000_000;
 
-/// The longest delay or cleaning gap, in periods.
+/// The longest delay, in periods.
 pub const MAX_DELAY: u32 = 96;
+
+/// The longest cleaning gap, in periods.
+pub const MAX_GAP: u32 = 336;
+
+/// The longest cleaning gap of a plant that is not large, in periods.
+pub const SMALL_GAP: u32 = 96;
+
+/// The earliest time at which the batch that held a unit last ends.
+pub const MIN_UNTIL: i32 = -96;
 
 /// The longest name, in bytes.
 pub const MAX_NAME: usize = 32;
@@ -113,6 +122,9 @@ pub fn limits_hold()
     ensures amount { MAX_AMOUNT ≡ 1000000000 }
     ensures price { MAX_PRICE ≡ 1000000 }
     ensures delay { MAX_DELAY ≡ 96 }
+    ensures gap { MAX_GAP ≡ 336 }
+    ensures small_gap { SMALL_GAP ≡ 96 }
+    ensures until { MIN_UNTIL ≡ negsuc 95 }
     ensures name { MAX_NAME ≡ 32 }
 {}
 

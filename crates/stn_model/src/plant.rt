@@ -54,6 +54,16 @@ pub struct Utility {
 #[derive(Drop)]
 pub struct StnUnit {
     pub name: Name,
+    /// The batch that held the unit before all starts of a plan, if one did.
+    pub last: Option<Last>,
+}
+
+/// The batch that held a unit last: of which task it was, and the time at which it ends.
+#[derive(Clone, Copy)]
+pub struct Last {
+    pub task: u32,
+    /// The time at which it ends: below 0 where it is over before the plan begins.
+    pub until: i32,
 }
 
 /// A task turns its inputs into its outputs, in fixed proportions of its batch.

@@ -1,12 +1,17 @@
 //! The questions about a plant that code asks again and again. None of them takes memory, and each takes time in
 //! proportion to the list that it looks through: a task's outputs, or the plant's runs, gaps or outages.
-ghost use Rattle.std.specs.Prelude.{◌≡◌, ◌<◌, IfSome, length, position};
+ghost use Rattle.std.specs.Prelude.{◌≡◌, ◌<◌, ◌^◌, pos, ◌+ℤ◌, IfSome, length, position};
 ghost use Rattle.stn_model.specs.Plant.{
   duration_of,
   run_number,
   run_on,
   gap_between,
   cost_between,
+  from_begin,
+  held_until,
+  ready_at,
+  first_cost,
+  unit_at,
   rate_in,
   is_in_use,
   end_of,
@@ -16,7 +21,7 @@ ghost use Rattle.stn_model.specs.Plant.{
 ghost use Rattle.stn_model.specs.Fits.{is_fit, has_size};
 ghost use Rattle.stn_model.specs.Sound.{Sound};
 
-use crate::plant::{Gap, Plant, Run, Task, Utility};
+use crate::plant::{Gap, Last, Plant, Run, Task, Utility};
 use crate::start::Start;
 
 /// How many periods a batch of the task takes: the greatest delay of its outputs.
@@ -101,6 +106,71 @@ pub fn change_cost(plant: &Plant, unit: u32, from: u32, to: u32) -> u32
         }
     }
     most
+}
+
+/// The time until which the batch goes on that held a unit last; 0 where none held it, or where it was over before.
+#[tactic(auto, unfolding(crate::specs::Plant::held_until))]
+pub fn held_until(plant: &Plant, unit: u32) -> u64
+    ensures value { result ≡ held_until plant.now unit }
+    ensures small { result < 2 ^ 32 }
+{
+    match last_of(plant, unit) {
+        Some(last) => from_begin(last.until),
+        None => 0,
+    }
+}
+
+fn from_begin(time: i32) -> u64
+    ensures value { result ≡ from_begin time }
+    ensures small { result < 2 ^ 32 }
+{
+    if time < 0 { 0 } else { time as u64 }
+}
+
+/// The first time at which a first batch of the task may begin on the unit: when the batch that held it last has ended and the
+/// unit is cleaned after it; 0 where none held it.
+#[tactic(auto, unfolding(crate::specs::Plant::ready_at))]
+pub fn ready(plant: &Plant, unit: u32, task: u32) -> u64
+    ensures value { result ≡ ready_at plant.now unit task }
+    ensures small { result < 2 ^ 33 }
+{
+    match last_of(plant, unit) {
+        Some(last) => time_after(last.until, gap_of(plant, unit, last.task, task)),
+        None => 0,
+    }
+}
+
+// The time so many periods after another one, and 0 where that is before the begin.
+fn time_after(time: i32, periods: u32) -> u64
+    ensures value { result ≡ from_begin (time +ℤ pos periods) }
+    ensures small { result < 2 ^ 33 }
+{
+    let after = i64::from(time) + i64::from(periods);
+    if after < 0 { 0 } else { after as u64 }
+}
+
+/// What the changeover to a first batch of the task on the unit costs, in money: that from the batch that held it last; 0
+/// where none did.
+#[tactic(auto, unfolding(crate::specs::Plant::first_cost))]
+pub fn first_cost(plant: &Plant, unit: u32, task: u32) -> u32
+    ensures { result ≡ first_cost plant.now unit task }
+{
+    match last_of(plant, unit) {
+        Some(last) => change_cost(plant, unit, last.task, task),
+        None => 0,
+    }
+}
+
+/// The batch that held a unit last, if one did; none where the unit is not there.
+pub fn last_of(plant: &Plant, unit: u32) -> Option<Last>
+    ensures { result ≡ (unit_at plant.now unit).last }
+{
+    if (unit as usize) < plant.units.len() {
+        let unit = plant.units.get(unit as usize);
+        unit.last
+    } else {
+        None
+    }
 }
 
 fn is_listed(gap: &Gap, unit: u32, from: u32, to: u32) -> bool

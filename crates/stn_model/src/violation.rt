@@ -7,6 +7,9 @@ pub enum Violation {
     Unfit { place: u32 },
     /// The batches at these places are on one unit, and neither ends by the start of the other.
     Busy { first: u32, second: u32 },
+    /// The batch at this place is the first on its unit, and begins before the batch that held the unit
+    /// last has ended and the unit is cleaned after it.
+    Early { place: u32 },
     /// The batch at the second place is the next on the unit of the first, and begins before the
     /// unit is cleaned.
     Gap { first: u32, second: u32 },

@@ -11,7 +11,7 @@ use Rattle.row_kit.specs.declared.program.Program.{Program}
 use Rattle.row_kit.specs.declared.row.Entry.{Entry}
 use Rattle.row_kit.specs.declared.row.Row.{Row}
 use Rattle.row_kit.specs.declared.row.Tag.{Tag}
-use Rattle.row_kit.specs.Bounds.{AreBounded, IsBoundedRow, KeepsBounds}
+use Rattle.row_kit.specs.Bounds.{AreBounded, IsBoundedRow, IsBoundedTag, KeepsBounds}
 use Rattle.row_kit.specs.Domain.{IsNormal, IsOpen}
 use Rattle.sum_slots.specs.declared.sum.Sum.{Sum}
 use Rattle.sum_slots.specs.Larger.{IsWithSums, row_above, row_below, slot_entry, sum_domain, sum_rows, sum_tag}
@@ -114,4 +114,5 @@ keeps_bounds program ranges sums lane rows root tags few_slots few_rows declared
       base_bounded = program.base_bounded;
       one_tag = ap length are_tags ∙ omega (arith, slots, program.one_tag, length-append program.tags (map (λ s. sum_tag lane) sums), length-map sums (λ s. sum_tag lane));
       costs_bounded = program.costs_bounded;
+      openings_bounded = subst (All IsBoundedTag) (sym are_tags) (All-append IsBoundedTag program.tags (map (λ s. sum_tag lane) sums) program.openings_bounded (All-map IsBoundedTag (λ s. sum_tag lane) sums (λ k d lt. omega arith)));
     }

@@ -1,5 +1,5 @@
 -- Slots in a lane of their own, all at one place, add nothing to what changeovers cost.
-use Rattle.std.proofs.Common.{◌≡◌, ℕ, Bool, true, false, not, ◌&&◌, ◌||◌, cond, eqb, ltb, List, [], ◌∷◌, ◌++◌, length, map, get_or, refl, sym, ap, ap₂, ◌∙◌, arith}
+use Rattle.std.proofs.Common.{◌≡◌, ℕ, ◌+◌, Bool, true, false, not, ◌&&◌, ◌||◌, cond, eqb, ltb, List, [], ◌∷◌, ◌++◌, length, map, get_or, refl, sym, ap, ap₂, ◌∙◌, arith}
 use Rattle.std.specs.List.{All, list_any, sum_by}
 use Rattle.std.proofs.lemmas.Bool.{ne_eqb}
 use Rattle.std.proofs.lemmas.List.Elements.{All-append, All-cons, All-head, All-nil, All-tail, All-weaker}
@@ -7,7 +7,8 @@ use Rattle.std.proofs.lemmas.List.Folds.{list_any-append, list_any_none}
 use Rattle.std.proofs.lemmas.List.Sums.{sum_by-append, sum_by-cons}
 use Rattle.row_kit.specs.declared.row.Change.{Change}
 use Rattle.row_kit.specs.declared.row.Tag.{Tag}
-use Rattle.row_kit.specs.Change.{changeovers, costs_after, is_after, is_between, listed_cost, pair_cost, started}
+use Rattle.row_kit.specs.Change.{changeovers, comes_first, costs_after, costs_of, is_after, is_between, listed_cost, opening_cost, pair_cost, started}
+use Rattle.row_kit.proofs.Starts.{cond_zero}
 use Rattle.sum_slots.specs.Larger.{sum_tag}
 
 -- the starts of two parts of a point are those of the first, then those of the second
@@ -23,7 +24,7 @@ started-append (t ∷ tags) more (v ∷ point) vs same =
     ]
 
 -- what holds of every tag holds of the starts'
-All-started : (P : Tag → Type 0) (tags : List Tag) (point : List ℕ) → All P tags → All P (started tags point)
+pub All-started : (P : Tag → Type 0) (tags : List Tag) (point : List ℕ) → All P tags → All P (started tags point)
 All-started P [] point all = All-nil P
 All-started P (t ∷ tags) [] all = All-nil P
 All-started P (t ∷ tags) (v ∷ point) all =
@@ -82,18 +83,29 @@ no_costs changes starts more a all =
     sum_by-zero (pair_cost changes (starts ++ more) a) (starts ++ more)
     (All-weaker (λ c. is_after a c ≡ false) (λ c. pair_cost changes (starts ++ more) a c ≡ 0) (λ c e. no_pair changes (starts ++ more) a c e) (starts ++ more) all)
 
+-- a start opens its lane at the same cost where others that are not before it are added
+same_opening : (starts more : List Tag) (a : Tag) → All (λ c. is_after c a ≡ false) more → opening_cost (starts ++ more) a ≡ opening_cost starts a
+same_opening starts more a all = ap (λ t. cond (not t) a.opening 0) (any_without (λ c. is_after c a) starts more all)
+
+-- the slot of a sum opens its lane at no cost
+no_opening : (starts : List Tag) (lane : ℕ) (a : Tag) → a ≡ sum_tag lane → opening_cost starts a ≡ 0
+no_opening starts lane a e = ap (opening_cost starts) e ∙ cond_zero (comes_first starts (sum_tag lane))
+
 -- starts elsewhere, with starts of one lane at one place, cost what they do alone
 same_starts : (changes : List Change) (lane : ℕ) (starts more : List Tag) → All (IsElsewhere lane) starts → All (λ t. t ≡ sum_tag lane) more →
-    sum_by (costs_after changes (starts ++ more)) (starts ++ more) ≡ sum_by (costs_after changes starts) starts
+    sum_by (costs_of changes (starts ++ more)) (starts ++ more) ≡ sum_by (costs_of changes starts) starts
 same_starts changes lane starts more away here =
-    let f = costs_after changes (starts ++ more) in
-    let old = sum_by-same f (costs_after changes starts) starts (λ k d lt.
-    same_costs changes starts more (get_or starts k d) (All-weaker (λ t. t ≡ sum_tag lane) (λ c. is_after (get_or starts k d) c ≡ false) (λ c e.
-    other_lane (get_or starts k d) c (λ same. away k d lt (sym same ∙ ap (λ (t : Tag). t.lane) e))) more here)) in
+    let f = costs_of changes (starts ++ more) in
+    let old = sum_by-same f (costs_of changes starts) starts (λ k d lt.
+    ap₂ (λ (m n : ℕ). m + n) (same_costs changes starts more (get_or starts k d) (All-weaker (λ t. t ≡ sum_tag lane) (λ c. is_after (get_or starts k d) c ≡ false) (λ c e.
+    other_lane (get_or starts k d) c (λ same. away k d lt (sym same ∙ ap (λ (t : Tag). t.lane) e))) more here))
+    (same_opening starts more (get_or starts k d) (All-weaker (λ t. t ≡ sum_tag lane) (λ c. is_after c (get_or starts k d) ≡ false) (λ c e.
+    other_lane c (get_or starts k d) (λ same. away k d lt (same ∙ ap (λ (t : Tag). t.lane) e))) more here))) in
     let new = sum_by-zero f more (All-weaker (λ t. t ≡ sum_tag lane) (λ t. f t ≡ 0) (λ t e.
-    no_costs changes starts more t (All-append (λ c. is_after t c ≡ false) starts more
+    ap₂ (λ (m n : ℕ). m + n) (no_costs changes starts more t (All-append (λ c. is_after t c ≡ false) starts more
     (All-weaker (IsElsewhere lane) (λ c. is_after t c ≡ false) (λ c apart. other_lane t c (λ same. apart (same ∙ ap (λ (x : Tag). x.lane) e))) starts away)
-    (All-weaker (λ c. c ≡ sum_tag lane) (λ c. is_after t c ≡ false) (λ c is. ap₂ is_after e is ∙ never (eqb lane lane)) more here))) more here) in
+    (All-weaker (λ c. c ≡ sum_tag lane) (λ c. is_after t c ≡ false) (λ c is. ap₂ is_after e is ∙ never (eqb lane lane)) more here)))
+    (no_opening (starts ++ more) lane t e)) more here) in
     omega (arith, sum_by-append f starts more, old, new)
   where
     never : (t : Bool) → (t && false) ≡ false
@@ -105,7 +117,7 @@ pub changeovers-with_lane : {X : Type 0} (changes : List Change) (tags : List Ta
     changeovers changes (tags ++ map (λ x. sum_tag lane) xs) (point ++ vs) ≡ changeovers changes tags point
 changeovers-with_lane {X = X} changes tags lane xs point vs away same =
     let more = map (λ x. sum_tag lane) xs in
-    ap (λ starts. sum_by (costs_after changes starts) starts) (started-append tags more point vs same)
+    ap (λ starts. sum_by (costs_of changes starts) starts) (started-append tags more point vs same)
     ∙ same_starts changes lane (started tags point) (started more vs) (All-started (IsElsewhere lane) tags point away) (All-started (λ t. t ≡ sum_tag lane) more vs (all_tags xs))
   where
     all_tags : (ys : List X) → All (λ t. t ≡ sum_tag lane) (map (λ y. sum_tag lane) ys)

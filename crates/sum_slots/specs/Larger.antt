@@ -36,7 +36,7 @@ sum_rows slot (sum ∷ sums) = row_below slot sum ∷ (row_above slot sum ∷ su
 
 -- the tag of a sum's slot in a lane
 abbrev pub sum_tag : ℕ → Tag
-sum_tag lane = record { lane = lane; place = 0; kind = 0 }
+sum_tag lane = record { lane = lane; place = 0; kind = 0; opening = 0 }
 
 -- a program is another with sums that are shown by these domains: a slot for each after all others, without profit and in a lane that no other slot has, and two rows for each after all others
 pub record IsWithSums (program : Program) (ranges : List Domain) (sums : List Sum) (larger : Program) : Type 0 where

@@ -44,5 +44,6 @@ fn sum_tag(lane: u32) -> Tag
         lane,
         place: 0,
         kind: 0,
+        opening: 0,
     }
 }

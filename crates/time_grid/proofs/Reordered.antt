@@ -1,5 +1,5 @@
 -- Feasibility and profit do not depend on the order of the starts.
-use Rattle.std.proofs.Common.{◌≡◌, ◌≢◌, ℕ, ◌<◌, ◌⊎◌, Bool, true, not, ◌&&◌, List, [], ◌∷◌, length, get_or, sum_by, ℤ, pos, ◌+ℤ◌, ◌-ℤ◌, ◌*ℤ◌, IsPermutation, swap, sym, refl, ap, ap₂, ◌∙◌, arith, inl, inr, ⊎_elim, nat_lt, ◌==◌, if◌then◌else◌}
+use Rattle.std.proofs.Common.{◌≡◌, ◌≢◌, ℕ, ◌+◌, ◌<◌, ◌⊎◌, Bool, true, not, ◌&&◌, List, [], ◌∷◌, length, get_or, sum_by, ℤ, pos, ◌+ℤ◌, ◌-ℤ◌, ◌*ℤ◌, IsPermutation, swap, sym, refl, ap, ap₂, ◌∙◌, arith, inl, inr, ⊎_elim, nat_lt, ◌==◌, if◌then◌else◌}
 use Rattle.std.specs.List.{All, AllPairs, list_all}
 use Rattle.std.proofs.lemmas.Int.{ints}
 use borrow.Author.Differences.{up, down}
@@ -10,15 +10,15 @@ use Rattle.std.proofs.lemmas.List.Sums.{sum_by-cons, AllPass-from_list_all, list
 use Rattle.std.proofs.lemmas.Bool.{cases_Bool, cases_order, cases_eq, true≢false, false_from_ne_true}
 use Rattle.stn_model.specs.declared.plant.Plant.{Plant}
 use Rattle.stn_model.specs.declared.start.Start.{Start}
-use Rattle.stn_model.specs.Plant.{state_at, utility_at, rate_in, run_on, cost_between}
+use Rattle.stn_model.specs.Plant.{state_at, utility_at, rate_in, run_on, cost_between, first_cost}
 use Rattle.stn_model.specs.Fits.{Fits}
-use Rattle.stn_model.specs.Batches.{Apart, Cleaned, is_amid, is_next}
+use Rattle.stn_model.specs.Batches.{Apart, Begun, Cleaned, is_amid, is_earlier, is_first, is_next}
 use Rattle.stn_model.specs.Stock.{given, taken, inflow, outflow, stock}
 use Rattle.stn_model.specs.Load.{drawn, load}
 use Rattle.stn_model.specs.Feasible.{Feasible}
 use Rattle.stn_model.specs.Sums.{total}
 use Rattle.stn_model.proofs.Totals.{total_below-agree}
-use Rattle.stn_model.specs.Profit.{end_value, payments, holding_cost, utility_cost, cost_of, start_cost, changeover, change_costs, profit}
+use Rattle.stn_model.specs.Profit.{end_value, payments, holding_cost, utility_cost, cost_of, start_cost, changeover, first_change, change_costs, profit}
 
 -- what holds of any two places, and does not depend on their order, holds after a swap
 module _ {X : Type 0} (R : X → X → Type 0) (turned : (x y : X) → R x y → R y x) where
@@ -110,6 +110,10 @@ next-permutation : (a b : Start) (P Q : List Start) → IsPermutation P Q → is
 unfolding is_next
 next-permutation a b P Q same = ap (λ t. a.unit == b.unit && nat_lt a.period b.period && t) (list_all-permutation (λ c. not (is_amid a b c)) P Q same)
 
+first-permutation : (b : Start) (P Q : List Start) → IsPermutation P Q → is_first P b ≡ is_first Q b
+unfolding is_first
+first-permutation b P Q same = list_all-permutation (λ a. not (is_earlier a b)) P Q same
+
 pub stock-permutation : (plant : Plant) (P Q : List Start) (state time : ℕ) → IsPermutation P Q → stock plant P state time ≡ stock plant Q state time
 unfolding stock inflow outflow
 stock-permutation plant P Q state time same =
@@ -131,6 +135,7 @@ Feasible-permutation plant P Q same is = record {
       (λ a h. All-permutation (Cleaned plant Q a) P Q same
       (All-weaker (Cleaned plant P a) (Cleaned plant Q a) (λ b c next. c (next-permutation a b P Q same ∙ next)) P h))
       P is.cleaned);
+  begun = All-permutation (Begun plant Q) P Q same (All-weaker (Begun plant P) (Begun plant Q) (λ b c first. c (first-permutation b P Q same ∙ first)) P is.begun);
   stocks = λ state time l m. let kept = is.stocks state time l m in record {
     low = rw (← stock-permutation plant P Q state time same) kept.low;
     high = rw (← stock-permutation plant P Q state time same) kept.high;
@@ -142,14 +147,24 @@ sum_by-agree : {X : Type 0} (f g : X → ℕ) → ((x : X) → f x ≡ g x) → 
 sum_by-agree f g e [] = refl
 sum_by-agree f g e (x ∷ xs) = simp sum_by-cons (omega (arith, e x, sum_by-agree f g e xs))
 
-pub change_costs-permutation : (plant : Plant) (P Q : List Start) → IsPermutation P Q → change_costs plant P ≡ change_costs plant Q
-unfolding change_costs changeover
-change_costs-permutation plant P Q same =
+pairs-permutation : (plant : Plant) (P Q : List Start) → IsPermutation P Q → sum_by (λ a. sum_by (changeover plant P a) P) P ≡ sum_by (λ a. sum_by (changeover plant Q a) Q) Q
+unfolding changeover
+pairs-permutation plant P Q same =
     let each : (a : Start) → sum_by (changeover plant P a) P ≡ sum_by (changeover plant Q a) Q =
     λ a. sum_by-agree (changeover plant P a) (changeover plant Q a) (λ b. ap (λ t. if t then cost_between plant a.unit a.task b.task else 0) (next-permutation a b P Q same)) P
     ∙ sym (sum_by-IsPermutation (changeover plant Q a) P Q same) in
     sum_by-agree (λ a. sum_by (changeover plant P a) P) (λ a. sum_by (changeover plant Q a) Q) each P
     ∙ sym (sum_by-IsPermutation (λ a. sum_by (changeover plant Q a) Q) P Q same)
+
+firsts-permutation : (plant : Plant) (P Q : List Start) → IsPermutation P Q → sum_by (first_change plant P) P ≡ sum_by (first_change plant Q) Q
+unfolding first_change
+firsts-permutation plant P Q same =
+    sum_by-agree (first_change plant P) (first_change plant Q) (λ b. ap (λ t. if t then first_cost plant b.unit b.task else 0) (first-permutation b P Q same)) P
+    ∙ sym (sum_by-IsPermutation (first_change plant Q) P Q same)
+
+pub change_costs-permutation : (plant : Plant) (P Q : List Start) → IsPermutation P Q → change_costs plant P ≡ change_costs plant Q
+unfolding change_costs
+change_costs-permutation plant P Q same = ap₂ (λ x y. x + y) (pairs-permutation plant P Q same) (firsts-permutation plant P Q same)
 
 -- the profit of a list is that of any order of it
 pub profit-permutation : (plant : Plant) (P Q : List Start) → IsPermutation P Q → profit plant P ≡ profit plant Q

@@ -1,5 +1,5 @@
 -- The gap rows are kept at a plan's point exactly where units are cleaned between its batches.
-use Rattle.std.proofs.Common.{◌≡◌, ℕ, ◌+◌, ◌<◌, ◌≤◌, ◌==◌, ◌&&◌, ◌||◌, ◌⊎◌, ◌↔◌, not, nat_lt, Bool, true, false, cond, List, length, get_or, filter, sum_by, count_by, pos, negsuc, ◌+ℤ◌, ◌-ℤ◌, ◌*ℤ◌, sym, refl, ap, ap₂, ◌∙◌, subst, arith, inl, inr}
+use Rattle.std.proofs.Common.{◌≡◌, ℕ, ◌+◌, ◌<◌, ◌≤◌, ◌==◌, ◌&&◌, ◌||◌, ◌⊎◌, ◌↔◌, not, nat_lt, Bool, true, false, cond, List, length, get_or, filter, sum_by, count_by, pos, ◌+ℤ◌, ◌-ℤ◌, ◌*ℤ◌, sym, refl, ap, ap₂, ◌∙◌, subst, arith, inl, inr}
 use Rattle.std.specs.List.{All, AllPairs, Contains, range_with_len}
 use Rattle.std.proofs.lemmas.Int.{ints}
 use Rattle.std.proofs.lemmas.List.{get_or_default}
@@ -12,22 +12,19 @@ use Rattle.stn_model.specs.Plant.{task_at, duration_of, gap_between, end_of, no_
 use Rattle.stn_model.specs.Batches.{Apart, Cleaned, is_amid, is_next}
 use Rattle.stn_model.specs.Points.{meets_gap}
 use Rattle.stn_model.specs.Sound.{Sound, SoundRun}
-use Rattle.time_grid.specs.Slots.{slots, is_slot, IsSlotOf}
+use Rattle.time_grid.specs.Slots.{slots, IsSlotOf}
 use Rattle.time_grid.specs.PlanPoint.{HasPoint, plan_point, start_in, is_in}
 use Rattle.time_grid.proofs.Lists.{All-flat_map, Contains-flat_map, Contains-map, Contains-filter, Contains-range}
 use Rattle.time_grid.proofs.SlotList.{slots-are, Contains-slots}
 use Rattle.stn_model.proofs.Fitting.{duration_pos, ends_later}
-use Rattle.time_grid.proofs.Fitting.{fits-at}
-use Rattle.time_grid.proofs.PlanPoints.{share-from_in, same_slot}
 use Rattle.time_grid.proofs.OnePlan.{sum_by-zero}
-use Rattle.time_grid.proofs.PointPlan.{in_own}
 use Rattle.time_grid.proofs.PointSums.{total-minus}
 use Rattle.row_kit.specs.declared.row.Row.{Row}
 use Rattle.row_kit.specs.Row.{entries_sum, IsKept}
 use Rattle.unit_rows.specs.Busy.{slot_end, is_on}
 use Rattle.unit_rows.specs.Gaps.{is_either, lies_between, gap_part, gap_row, is_too_soon, rows_after, unit_gap_rows, gap_rows}
-use Rattle.unit_rows.proofs.Counts.{two_counted, at_most_one, passes_one, either_counted, same_test}
-use Rattle.unit_rows.proofs.PointRows.{entries_sum-plan_point, InSlot, in_slot}
+use Rattle.unit_rows.proofs.Counts.{two_counted, passes_one, either_counted}
+use Rattle.unit_rows.proofs.PointRows.{entries_sum-plan_point, InSlot, in_slot, is_slot-in, part_is, slotted, one_in_slot}
 
 -- a start is in one of two slots
 abbrev is_in_either : Plant → ℕ × ℕ → ℕ × ℕ → Start → Bool
@@ -40,23 +37,6 @@ is_amid_slots plant a b start = start.unit == (run_at plant a.0).unit && nat_lt 
 -- 1 for a start between the slots that is in neither
 abbrev amid : Plant → ℕ × ℕ → ℕ × ℕ → Start → ℕ
 amid plant a b start = cond (is_in_either plant a b start) 0 (cond (is_amid_slots plant a b start) 1 0)
-
--- a slot is the one of a run and a period exactly where its starts are in that one
-is_slot-in : (plant : Plant) (a c : ℕ × ℕ) (value : ℕ) → Sound plant → IsSlotOf plant a → IsSlotOf plant c → is_slot a.0 a.1 c ≡ is_in plant a (start_in plant c value)
-is_slot-in plant a c value sound is is2 =
-    same_test (is_slot a.0 a.1 c) (is_in plant a (start_in plant c value))
-    (λ t.
-    let parts = and_parts _ _ t in
-    let same : c ≡ a = ap₂ (λ x y. (x, y)) (eqb-true _ _ parts.0) (eqb-true _ _ parts.1) in
-    subst (λ (s : ℕ × ℕ). is_in plant s (start_in plant c value) ≡ true) same (in_own plant c value))
-    (λ t.
-    let same : c ≡ a = same_slot plant c a (start_in plant c value) sound is2 is (in_own plant c value) t in
-    and_from _ _ (eq-eqb _ _ (ap (λ s. s.0) same)) (eq-eqb _ _ (ap (λ s. s.1) same)))
-
-part_is : (x y : Bool) (n : ℕ) → cond x (pos 1) (cond y (negsuc 0) (pos 0)) +ℤ (pos 0 *ℤ pos n) ≡ pos (cond x 1 0) -ℤ pos (cond x 0 (cond y 1 0))
-part_is true y n = omega (arith, ints)
-part_is false true n = omega (arith, ints)
-part_is false false n = omega (arith, ints)
 
 -- a slot counts what its starts do
 gap_part-counts : (plant : Plant) (a b c : ℕ × ℕ) (value : ℕ) → Sound plant → IsSlotOf plant a → IsSlotOf plant b → IsSlotOf plant c →
@@ -187,18 +167,6 @@ amid-none plant s t a b plan first second none =
       | inr u ↦ cond-false {A = ℕ} (is_in_either plant s t c) 0 (cond (is_amid_slots plant s t c) 1 0) u ∙ zero
     ])
 
--- the slots of two starts of a plan
-record Slotted (plant : Plant) (a : Start) : Type 0 where
-  slot : ℕ × ℕ
-  is : IsSlotOf plant slot
-  holds : is_in plant slot a ≡ true
-
-slotted : (plant : Plant) (plan : List Start) (i : ℕ) (d : Start) → Sound plant → HasPoint plant plan → i < length plan → Slotted plant (get_or plan i d)
-slotted plant plan i d sound has l =
-    let a = get_or plan i d in
-    let at = fits-at plant a sound (has.fits i d l) in
-    record { slot = (at.run, a.period); is = at.slot; holds = at.holds }
-
 -- a next batch that begins too soon breaks the row of the two slots
 too_many : (plant : Plant) (plan : List Start) (i j : ℕ) (d : Start) (s t : ℕ × ℕ) → i < length plan → j < length plan → Next plan (get_or plan i d) (get_or plan j d) →
     is_in plant s (get_or plan i d) ≡ true → is_in plant t (get_or plan j d) ≡ true → count_by (is_in_either plant s t) plan ≤ 1 + sum_by (amid plant s t) plan → ⊥
@@ -260,11 +228,6 @@ cleaned_from_rows plant plan sound has apart kept i d l j e m is =
           let row = All-contains (IsKept (plan_point plant plan)) (gap_rows plant) (gap_row plant s t) kept (Contains-gap_rows plant s t sound first.is second.is soon) in
           absurd (too_many plant plan i j d s t l m following first.holds second.holds ((gap_row-kept plant s t plan sound has first.is second.is).0 row))
     ])
-
--- one start at most is in a slot
-one_in_slot : (plant : Plant) (plan : List Start) (s : ℕ × ℕ) → HasPoint plant plan → count_by (is_in plant s) plan ≤ 1
-one_in_slot plant plan s has =
-    at_most_one (is_in plant s) plan (λ i j d l m t u. has.apart i j d l m (share-from_in plant s (get_or plan i d) (get_or plan j d) t u))
 
 strictly : (plant : Plant) (s t : ℕ × ℕ) (c : Start) → is_amid_slots plant s t c ≡ true → (s.1 < c.period) × (c.period < t.1)
 strictly plant s t c u =

@@ -4,4 +4,5 @@ pub mod Nearness
 pub mod PointRows
 pub mod BusyRows
 pub mod GapRows
+pub mod FirstRows
 pub mod RowCounts

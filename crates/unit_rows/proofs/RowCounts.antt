@@ -1,5 +1,5 @@
--- How many busy and gap rows there are, and the bounds that they keep.
-use Rattle.std.proofs.Common.{◌≡◌, ℕ, zero, suc, ◌+◌, ◌<◌, ◌≤◌, ◌==◌, Bool, true, false, cond, if◌then◌else◌, List, [], ◌∷◌, length, get_or, map, filter, sum_by, count_by, ℤ, pos, negsuc, unsigned_abs, refl, ◌∙◌, subst, arith, inl, inr}
+-- How many busy, gap and first rows there are, and the bounds that they keep.
+use Rattle.std.proofs.Common.{◌≡◌, ℕ, zero, suc, ◌+◌, ◌<◌, ◌≤◌, ◌==◌, ◌&&◌, Bool, true, false, cond, if◌then◌else◌, List, [], ◌∷◌, length, get_or, map, filter, sum_by, count_by, ℤ, pos, negsuc, unsigned_abs, refl, ◌∙◌, subst, arith, inl, inr}
 use Rattle.std.specs.List.{All, range_with_len}
 use Rattle.std.proofs.lemmas.List.{length-map}
 use Rattle.std.proofs.lemmas.List.Concat.{length-flat_map}
@@ -13,8 +13,8 @@ use Rattle.stn_model.specs.Points.{has_slot, meets_gap, gap_pairs}
 use Rattle.stn_model.specs.Sound.{Sound}
 use Rattle.stn_model.specs.Sums.{sum_below, count_below}
 use Rattle.stn_model.specs.Plant.{run_at}
-use Rattle.time_grid.specs.Slots.{slots}
-use Rattle.time_grid.proofs.SlotList.{sum_by-same, sum_by-filter, sum-slots}
+use Rattle.time_grid.specs.Slots.{slots, is_slot}
+use Rattle.time_grid.proofs.SlotList.{sum_by-same, sum_by-filter, sum-slots, few-slots}
 use Rattle.time_grid.proofs.OnePlan.{sum_by-zero}
 use Rattle.unit_rows.proofs.Counts.{sum_by-add}
 use Rattle.row_kit.specs.Row.{entries_from}
@@ -22,17 +22,20 @@ use Rattle.row_kit.specs.Bounds.{AreBounded, IsBoundedRow}
 use Rattle.row_kit.proofs.Gathered.{IsPartWithin, AreBounded-from}
 use Rattle.unit_rows.specs.Busy.{is_on, runs_in, busy_part, busy_row, unit_busy_rows, busy_rows}
 use Rattle.unit_rows.specs.Gaps.{is_either, lies_between, gap_part, gap_row, is_too_soon, rows_after, unit_gap_rows, gap_rows}
+use Rattle.unit_rows.specs.Firsts.{lies_before, first_part, first_row, is_too_early, is_early_on, unit_first_rows, first_rows}
 use Rattle.unit_rows.proofs.BusyRows.{All-busy_rows}
 use Rattle.unit_rows.proofs.GapRows.{All-gap_rows}
+use Rattle.unit_rows.proofs.FirstRows.{All-first_rows}
 
--- a row of small parts, one for each slot, with limit 1, keeps its bounds
-small_row : (plant : Plant) (part : ℕ × ℕ → ℤ × ℤ) → ((slot : ℕ × ℕ) → IsPartWithin 1 (part slot)) → IsBoundedRow (length (slots plant)) (record { entries = entries_from 0 (map part (slots plant)); limit = pos 1 })
-small_row plant part small =
+-- a row of small parts, one for each slot, with a limit of 1 at most, keeps its bounds
+small_row : (plant : Plant) (part : ℕ × ℕ → ℤ × ℤ) (n : ℕ) → n ≤ 1 → ((slot : ℕ × ℕ) → IsPartWithin 1 (part slot)) →
+    IsBoundedRow (length (slots plant)) (record { entries = entries_from 0 (map part (slots plant)); limit = pos n })
+small_row plant part n few small =
     let all : All (IsPartWithin 10000000) (map part (slots plant)) = All-map (IsPartWithin 10000000) part (slots plant) (λ k d l.
     let is = small (get_or (slots plant) k d) in record { fixed = omega (arith, is.fixed); per = omega (arith, is.per) }) in
     record {
       entries = subst (λ (n : ℕ). AreBounded n 10000000 (entries_from 0 (map part (slots plant)))) (length-map (slots plant) part) (AreBounded-from 10000000 (map part (slots plant)) all);
-      limit = omega arith;
+      limit = omega (arith, few);
     }
 
 one_small : (b : Bool) → unsigned_abs (cond b (pos 1) (pos 0)) ≤ 1
@@ -49,14 +52,21 @@ pub busy_rows-bounded : (plant : Plant) → All (IsBoundedRow (length (slots pla
 unfolding busy_row
 busy_rows-bounded plant =
     All-busy_rows (IsBoundedRow (length (slots plant))) plant (λ unit period.
-    small_row plant (busy_part plant unit period) (λ slot. record { fixed = one_small (runs_in plant unit period slot); per = omega arith }))
+    small_row plant (busy_part plant unit period) 1 (omega arith) (λ slot. record { fixed = one_small (runs_in plant unit period slot); per = omega arith }))
 
 -- so do the gap rows
 pub gap_rows-bounded : (plant : Plant) → All (IsBoundedRow (length (slots plant))) (gap_rows plant)
 unfolding gap_row
 gap_rows-bounded plant =
     All-gap_rows (IsBoundedRow (length (slots plant))) plant (λ a b is is2 soon.
-    small_row plant (gap_part plant a b) (λ slot. record { fixed = sign_small (is_either a b slot) (lies_between plant a b slot); per = omega arith }))
+    small_row plant (gap_part plant a b) 1 (omega arith) (λ slot. record { fixed = sign_small (is_either a b slot) (lies_between plant a b slot); per = omega arith }))
+
+-- and the first rows
+pub first_rows-bounded : (plant : Plant) → All (IsBoundedRow (length (slots plant))) (first_rows plant)
+unfolding first_row
+first_rows-bounded plant =
+    All-first_rows (IsBoundedRow (length (slots plant))) plant (λ b is early.
+    small_row plant (first_part plant b) 0 (omega arith) (λ slot. record { fixed = sign_small (is_slot b.0 b.1 slot) (lies_before plant b slot); per = omega arith }))
 
 -- there is a busy row for each unit and period
 pub length-busy_rows : (plant : Plant) → Sound plant → length (busy_rows plant) ≤ 32256
@@ -112,7 +122,7 @@ below-le : (f g : ℕ → ℕ) → ((k : ℕ) → f k ≤ g k) → (n : ℕ) →
 below-le f g h zero = omega arith
 below-le f g h (suc n) = omega (arith, h n, below-le f g h n)
 
-if_most : (b : Bool) (n : ℕ) → (if b then n else 0) ≤ n
+pub if_most : (b : Bool) (n : ℕ) → (if b then n else 0) ≤ n
 if_most true n = omega arith
 if_most false n = omega arith
 
@@ -153,3 +163,31 @@ gap_rows-pairs plant =
 
 pub length-gap_rows : (plant : Plant) → Sound plant → length (gap_rows plant) ≤ 32768
 length-gap_rows plant sound = omega (arith, gap_rows-pairs plant, sound.counts.gap_pairs)
+
+both_most : (a b : Bool) → cond (a && b) 1 0 ≤ cond a 1 0
+both_most true true = omega arith
+both_most true false = omega arith
+both_most false b = omega arith
+
+length-unit_first_rows : (plant : Plant) (unit : ℕ) → length (unit_first_rows plant unit) ≤ count_by (is_on plant unit) (slots plant)
+unfolding unit_first_rows
+length-unit_first_rows plant unit =
+    let all = length-map (filter (is_early_on plant unit) (slots plant)) (first_row plant) in
+    let few = length-filter (is_early_on plant unit) (slots plant) in
+    let less = sum_by-le-sum_by (λ slot. cond (is_early_on plant unit slot) 1 0) (λ slot. cond (is_on plant unit slot) 1 0) (slots plant)
+    (λ slot. both_most (is_on plant unit slot) (is_too_early plant slot)) in
+    omega (arith, all, few, less)
+
+-- there is at most one first row for each slot
+pub first_rows-slots : (plant : Plant) → length (first_rows plant) ≤ length (slots plant)
+unfolding first_rows
+first_rows-slots plant =
+    let units = range_with_len 0 (length plant.units) in
+    let all = length-flat_map (unit_first_rows plant) units in
+    let each = sum_by-le-sum_by (λ unit. length (unit_first_rows plant unit)) (λ unit. count_by (is_on plant unit) (slots plant)) units (length-unit_first_rows plant) in
+    let once = classes (λ slot. (run_at plant slot.0).unit) (λ slot. 1) (slots plant) (length plant.units) in
+    let ones = sum_by-le (λ slot. 1) 1 (slots plant) (λ k d l. omega arith) in
+    omega (arith, all, each, once, ones)
+
+pub length-first_rows : (plant : Plant) → Sound plant → length (first_rows plant) ≤ 4096
+length-first_rows plant sound = omega (arith, first_rows-slots plant, few-slots plant sound)

@@ -1,6 +1,6 @@
 -- A sound plant with raised limits is sound, and one with limits that are raised by nothing is the same.
 use Rattle.std.proofs.Common.{◌≡◌, ◌≢◌, ℕ, suc, ◌<◌, ◌≤◌, Bool, true, false, cond, List, [], ◌∷◌, length, map, get_or, set, min, refl, sym, ap, ◌∙◌, subst, inl, inr, arith, ℤ, pos, ◌+ℤ◌, ◌*ℤ◌, ⊎_elim}
-use Rattle.std.specs.Prelude.{int_lt, unsigned_abs, All, AllPairs}
+use Rattle.std.specs.Prelude.{int_lt, unsigned_abs, Option, Some, None, IfSome, All, AllPairs}
 use Rattle.std.proofs.lemmas.Bool.{cases_eq}
 use Rattle.std.proofs.lemmas.Int.{ints}
 use Rattle.std.proofs.Math.IntN.{zero-*ℤ}
@@ -8,10 +8,11 @@ use Rattle.std.proofs.lemmas.List.{get_or_default, get_or-map, get_or-set_other,
 use Rattle.std.proofs.lemmas.List.Elements.{All-set}
 use Rattle.stn_model.specs.declared.plant.Plant.{Plant}
 use Rattle.stn_model.specs.declared.plant.State.{State}
+use Rattle.stn_model.specs.declared.plant.Last.{Last}
 use Rattle.stn_model.specs.Fits.{is_fit}
 use Rattle.stn_model.specs.Plant.{end_of, gap_between, is_in_use, no_state, run_on}
 use Rattle.stn_model.specs.Points.{gap_pairs, has_slot, meets_gap, slot_count, slots_of}
-use Rattle.stn_model.specs.Sound.{Sound, SmallCounts, SoundCounts, SoundNames, SoundState}
+use Rattle.stn_model.specs.Sound.{Sound, SmallCounts, SoundCounts, SoundLast, SoundNames, SoundState}
 use Rattle.what_if.specs.Raised.{raised, raised_limit, raised_states, with_limits, with_states}
 
 -- a raised limit lies in its range
@@ -89,11 +90,18 @@ module _ (plant : Plant) (states : List State) (same : length states ≡ length 
     slots = subst (λ (n : ℕ). n ≤ 512) (sym slots-same) counts.slots;
     gap_pairs = subst (λ (n : ℕ). n ≤ 8192) (sym gap_pairs-same) counts.gap_pairs;
     rates = counts.rates;
+    gaps = counts.gaps;
+    lasts = counts.lasts;
   }
 
   names-other : SoundNames plant → AllPairs (λ a b. a.name ≢ b.name) states → SoundNames other
   unfolding other
   names-other names own = record { states = own; utilities = names.utilities; units = names.units; tasks = names.tasks; runs = names.runs }
+
+  last-other : (last : Option Last) → IfSome last (SoundLast plant) → IfSome last (SoundLast other)
+  unfolding other
+  last-other None sound = sound
+  last-other (Some last) sound = record { task = sound.task; early = sound.early; late = sound.late }
 
   -- the plant with other states is sound where they are
   sound-other : Sound plant → All (SoundState plant.periods) states → AllPairs (λ a b. a.name ≢ b.name) states → Sound other
@@ -104,7 +112,7 @@ module _ (plant : Plant) (states : List State) (same : length states ≡ length 
     names = names-other sound.names names;
     states = each;
     utilities = sound.utilities;
-    units = sound.units;
+    units = λ k d lt. let unit = sound.units k d lt in record { name = unit.name; last = last-other _ unit.last };
     tasks = λ k d lt. let task = sound.tasks k d lt in record {
       name = task.name;
       quantum = task.quantum;

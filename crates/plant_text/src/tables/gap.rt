@@ -9,13 +9,19 @@ use crate::scope::{Context, Owner};
 use crate::values::{count, reference};
 use std::alloc::Global;
 use stn_model::Gap;
-use stn_model::limits::{MAX_DELAY, MAX_PRICE};
+use stn_model::limits::{MAX_GAP, MAX_PRICE, SMALL_GAP};
 use toml::Value;
 
 fn least_gap(second: bool) -> u32
     ensures { result ≡ (if second then 0 else 1) }
 {
     if second { 0 } else { 1 }
+}
+
+fn longest_gap(third: bool) -> u32
+    ensures { result ≡ (if third then 336 else 96) }
+{
+    if third { MAX_GAP } else { SMALL_GAP }
 }
 
 impl Row for Gap {
@@ -37,11 +43,12 @@ impl Row for Gap {
             inner: 0,
         };
         let least = least_gap(context.second);
+        let longest = longest_gap(context.third);
         read_fields! { value, place;
             unit: (needed StnUnit) = reference(; &context.units);
             from: (needed From) = reference(; &context.tasks);
             to: (needed To) = reference(; &context.tasks);
-            periods: (needed Periods) = count(; least, MAX_DELAY, 0);
+            periods: (needed Periods) = count(; least, longest, 0);
             cost: (since context.second, Cost) = count(; 0, MAX_PRICE, 0);
         }
         Ok(Gap {

@@ -1,7 +1,7 @@
 use Rattle.std.proofs.Common.{List, ap, ◌∙◌, ◌&&◌, arith}
 use Rattle.std.specs.Prelude.{not}
 use Rattle.std.specs.List.{list_any}
-use Rattle.plan_tables.specs.declared.units.Cleaning.{Cleaning}
+use Rattle.plan_tables.specs.declared.cleanings.Cleaning.{Cleaning}
 use Rattle.plan_tables.specs.Units.{lies_in}
 use Rattle.plan_tables.proofs.Periods.{counted_none, counted_more, at_most_more}
 use Rattle.plan_tables.proofs.units.count_periods.Goals as goal

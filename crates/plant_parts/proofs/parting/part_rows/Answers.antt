@@ -16,6 +16,7 @@ invariant_of-program c =
       base_bounded = bounds.base_bounded;
       one_tag = bounds.one_tag;
       costs_bounded = bounds.costs_bounded;
+      openings_bounded = bounds.openings_bounded;
     }
 
 pub returns-clause-part : goal.returns-clause-part

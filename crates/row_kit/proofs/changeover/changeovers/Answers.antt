@@ -1,19 +1,11 @@
--- One start more: what the changeovers from it cost.
-use Rattle.std.proofs.Common.{◌≡◌, ◌∙◌, ◌+◌, List, ap, sym, drop, get_or, length, arith}
+-- One start more: what it costs.
+use Rattle.std.proofs.Common.{◌∙◌, ◌+◌, ap, drop, get_or, arith}
 use Rattle.std.specs.List.{sum_by}
-use Rattle.std.proofs.lemmas.List.{nil_from_length}
 use Rattle.std.proofs.lemmas.List.Sums.{sum_by-cons}
-use Rattle.std.proofs.lemmas.Bool.{eqb-true}
-use Rattle.row_kit.specs.declared.row.Change.{Change}
-use Rattle.row_kit.specs.Change.{started, costs_after, changeovers}
-use Rattle.row_kit.proofs.Starts.{started_skip, started_take, nothing_listed, no_tag}
+use Rattle.row_kit.specs.Change.{started, costs_of}
+use Rattle.row_kit.proofs.Starts.{started_skip, started_take, no_tag}
 use Rattle.row_kit.proofs.changeover.changeovers.Goals as goal
 use Rattle.row_kit.proofs.changeover.changeovers.Goals.{then-point-slot-ne0, else-point-slot-ne0}
-
-pub returns-then-is_empty-clause-cost : goal.returns-then-is_empty-clause-cost
-returns-then-is_empty-clause-cost c =
-    let none : length c.args.changes.now ≡ 0 = eqb-true (length c.args.changes.now) 0 (sym c.is_empty.ensures ∙ c.if-is_empty.true) in
-    sym (ap (λ (cs : List Change). changeovers cs c.args.tags.now c.args.point.now) (nil_from_length c.args.changes.now none) ∙ nothing_listed c.args.tags.now c.args.point.now)
 
 pub loop-slot-preserved : goal.loop-slot-preserved
 loop-slot-preserved c =
@@ -26,13 +18,13 @@ loop-slot-preserved c =
     elim c.if-point-slot-ne0.branch [
       | then-point-slot-ne0 w ↦
           let tag = get_or tags slot no_tag in
-          let e = ap (sum_by (costs_after changes starts)) (started_take tags point slot c.loop-slot-test.true c.requires.same_length w.if-point-slot-ne0.true no_tag) ∙ sum_by-cons (costs_after changes starts) tag rest in
+          let e = ap (sum_by (costs_of changes starts)) (started_take tags point slot c.loop-slot-test.true c.requires.same_length w.if-point-slot-ne0.true no_tag) ∙ sum_by-cons (costs_of changes starts) tag rest in
           record {
-            whole = omega (arith, w.sum-is, w.costs_after-sum.ensures.cost, e, c.loop-slot.invariant.whole);
-            small = omega (arith, w.sum-is, w.costs_after-sum.ensures.small, c.loop-slot.invariant.small, c.requires.few);
+            whole = omega (arith, w.sum-is, w.costs_of-sum.ensures.cost, e, c.loop-slot.invariant.whole);
+            small = omega (arith, w.sum-is, w.costs_of-sum.ensures.small, c.loop-slot.invariant.small);
           }
       | else-point-slot-ne0 w ↦
-          let e = ap (sum_by (costs_after changes starts)) (started_skip tags point slot c.loop-slot-test.true c.requires.same_length w.if-point-slot-ne0.false no_tag) in
+          let e = ap (sum_by (costs_of changes starts)) (started_skip tags point slot c.loop-slot-test.true c.requires.same_length w.if-point-slot-ne0.false no_tag) in
           record {
             whole = omega (arith, w.sum-is, e, c.loop-slot.invariant.whole);
             small = omega (arith, w.sum-is, c.loop-slot.invariant.small);

@@ -1,11 +1,20 @@
 -- One start more: it costs something where its place is the next one.
-use Rattle.std.proofs.Common.{◌≡◌, ℕ, ◌∙◌, ◌+◌, ◌&&◌, ap, sym, cond, leb, drop, get_or, arith}
+use Rattle.std.proofs.Common.{◌≡◌, ℕ, ◌∙◌, ◌+◌, ◌&&◌, List, ap, sym, cond, leb, drop, get_or, length, arith}
 use Rattle.std.specs.List.{sum_by}
+use Rattle.std.proofs.lemmas.List.{nil_from_length}
 use Rattle.std.proofs.lemmas.List.Sums.{sum_by-cons}
-use Rattle.row_kit.specs.Change.{started, is_after, listed_cost, pair_cost}
-use Rattle.row_kit.proofs.Starts.{started_skip, started_take, pair_cost_is, no_tag}
+use Rattle.std.proofs.lemmas.Bool.{eqb-true}
+use Rattle.row_kit.specs.declared.row.Change.{Change}
+use Rattle.row_kit.specs.Change.{started, is_after, listed_cost, pair_cost, costs_after}
+use Rattle.row_kit.proofs.Starts.{started_skip, started_take, pair_cost_is, nothing_listed, no_tag}
 use Rattle.row_kit.proofs.changeover.costs_after.Goals as goal
 use Rattle.row_kit.proofs.changeover.costs_after.Goals.{then-point-slot-ne0, else-point-slot-ne0}
+
+pub returns-then-is_empty-clause-cost : goal.returns-then-is_empty-clause-cost
+returns-then-is_empty-clause-cost c =
+    let starts = started c.args.tags.now c.args.point.now in
+    let none : length c.args.changes.now ≡ 0 = eqb-true (length c.args.changes.now) 0 (sym c.is_empty.ensures ∙ c.if-is_empty.true) in
+    sym (ap (λ (cs : List Change). costs_after cs starts c.args.start.now) (nil_from_length c.args.changes.now none) ∙ nothing_listed starts c.args.start.now)
 
 pub loop-slot-preserved : goal.loop-slot-preserved
 loop-slot-preserved c =

@@ -16,6 +16,7 @@ invariant_of-result c =
       base_bounded = kept.base_bounded;
       one_tag = kept.one_tag;
       costs_bounded = kept.costs_bounded;
+      openings_bounded = kept.openings_bounded;
     }
 
 pub returns-clause-means : goal.returns-clause-means

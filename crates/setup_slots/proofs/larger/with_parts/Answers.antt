@@ -27,6 +27,7 @@ invariant_of-result c =
       base_bounded = omega (arith, ints, program.base_bounded);
       one_tag = kept.one_tag;
       costs_bounded = kept.costs_bounded;
+      openings_bounded = kept.openings_bounded;
     }
 
 pub returns : goal.returns

@@ -1,6 +1,0 @@
-use Rattle.std.proofs.Common.{◌≡◌, map, take}
-use Rattle.plan_tables.specs.Units.{cleaning_after}
-use Rattle.plan_tables.proofs.units.cleanings_of.Given as goal
-
-abbrev pub invariant-loop-a : goal.invariant-loop-a
-invariant-loop-a l = l.found.items ≡ map (cleaning_after l.plant l.batches) (take l.a-index l.batches)
