@@ -5,16 +5,16 @@
     python3 bench/hostile.py --table    # and a row for each case, with processor seconds and peak memory
 
 The program is that of STN_PROGRAM, or the one that `./stn` or a gate that passed has left in built/; where there is none, this says
-'skipped'. Each run has 10 seconds of processor time, heads of many rows 60, 100 on the clock, 600 MiB of address space and no core file. Large files are made
-in a folder of their own, as empty stretches where that does, and go with it.
+'skipped'. Each run has 10 seconds of processor time, heads of many rows and the largest plant 60, 300 on the clock, 600 MiB of address
+space, 8 MiB of stack and no core file. Large files are made in a folder of their own, as empty stretches where that does, and go with it.
 """
 import os, resource, shutil, signal, subprocess, sys, tempfile
 
-from large_inputs import WORTH_OF_NOTHING, most_entries, points
+from large_inputs import WORTH_OF_NOTHING, deep_log, deep_plant, greatest, most_entries, points
 
 top = os.path.dirname(os.path.dirname(os.path.abspath(__file__)))
 BUILT = os.environ.get("STN_PROGRAM") or os.path.join(top, "built", "stn")
-SECONDS, ON_THE_CLOCK, MEMORY = 10, 100, 600 << 20
+SECONDS, ON_THE_CLOCK, MEMORY = 10, 300, 600 << 20
 # How many rows the heads of many rows have: as many as may stand there for the table, else an eighth, which takes an eighth of the time.
 MOST_ROWS = 4096 if "--table" in sys.argv else 512
 NOBODY = 65534
@@ -33,6 +33,7 @@ class Case:
         resource.setrlimit(resource.RLIMIT_AS, (MEMORY, MEMORY))
         resource.setrlimit(resource.RLIMIT_CPU, (self.how.get("seconds", SECONDS),) * 2)
         resource.setrlimit(resource.RLIMIT_CORE, (0, 0))
+        resource.setrlimit(resource.RLIMIT_STACK, (8 << 20, resource.getrlimit(resource.RLIMIT_STACK)[1]))
         if "size" in self.how:
             signal.signal(signal.SIGXFSZ, signal.SIG_IGN)
             resource.setrlimit(resource.RLIMIT_FSIZE, (self.how["size"],) * 2)
@@ -58,7 +59,7 @@ class Case:
     def wrong(self, status, text):
         """What is not as it should be."""
         if status < 0:
-            return f"signal {-status}, which is 9 after {SECONDS} seconds of processor time"
+            return f"signal {-status}, which is 9 after {self.how.get('seconds', SECONDS)} seconds of processor time"
         if status not in self.statuses:
             return f"status {status}, and not {' or '.join(map(str, self.statuses))}"
         if self.text is not None and text != self.text.encode():
@@ -89,7 +90,7 @@ def log(room, name, *lines):
 def of_devices(room):
     """Devices that are full, closed or without end, and folders."""
     answers = [["solve", "tiny", "31"], ["solve", "tiny", "31", "written"], ["simulate", "tiny", "plan"], ["report", "tiny", "plan"],
-               ["check", "tiny", "proof"], ["upgrade", "tiny"], ["demo", "1"], ["no", "words"]]
+               ["check", "tiny", "proof"], ["upgrade", "tiny"], ["roll", "tiny", "plan", "1"], ["demo", "1"], ["no", "words"]]
     for words in answers:
         yield Case(f"{' '.join(words)}: standard output on a full device", words, 8, out="/dev/full")
     yield Case("standard output closed", ["simulate", "tiny", "plan"], 8, closed=True)
@@ -122,6 +123,9 @@ def of_files(room):
               ("a MiB of keys", write(room, "p5", *((f"k{i}=1\n", 1) for i in range(100_000))), 3))
     for what, name, kind in plants:
         yield Case(f"a plant: {what}", ["upgrade", name], 3, f"refused plant {kind} top 0 0 -\n")
+    name = write(room, "p6", (greatest(), 1))
+    yield Case("a plant of 4 MiB with the most of everything: read", ["upgrade", name], 0, out=os.devnull, seconds=2)
+    yield Case("a plant of 4 MiB with the most of everything: planned, or no memory", ["solve", name, "1"], (0, 1, 6, 9), seconds=60)
     yield Case("a plan of 200 MB of zeros", ["simulate", "tiny", zeros(room, "z2", 200_000_000)], 4, "refused plan 4 0\n")
     yield Case("a plan of 131,072 comments", ["simulate", "tiny", write(room, "z3", ("#\n", 131_072))], 0, "feasible 12\n")
 
@@ -183,6 +187,24 @@ def great_rows():
     yield "512 lifts", row(3, 1, 512, 0) + "by 576 1\n" + each("lift {} -1\n")
     yield "512 shifts", row(3, 1, 512, 0) + "by 576 1\n" + each("shift {} -1\n")
     yield "an entry for each slot", row(1000, 1, 0, 512) + "by 576 1000\n" + each("entry {} 0 -10000000\n")
+
+
+def deep(room, name, depth, first):
+    """A log in which so many splits stand one below another, in the first parts or in the second ones."""
+    return write(room, name, (deep_log(depth, first), 1))
+
+
+def of_depths(room):
+    """Proofs of a large plant that are as deep as they may be; for `whatif`, which takes stack for each split, half as deep."""
+    plant = write(room, "large", (deep_plant(), 1))
+    for first in (True, False):
+        where, name = "first" if first else "second", deep(room, f"deep{first:d}", 36_864, first)
+        yield Case(f"check of 36,864 splits in {where} parts", ["check", plant, name], 0, f"yes below {10 ** 12}\n")
+        yield Case(f"its plan, of 36,864 splits in {where} parts", ["plan", plant, name], 0)
+        yield Case(f"whatif by 18,432 splits in {where} parts", ["whatif", plant, deep(room, "half", 18_432, first), "s1", "1", "1"], 0)
+        for part in "01":
+            deep(room, f"deep.{part}", 36_863, first)
+        yield Case(f"join of parts of 36,863 splits in {where} parts", ["join", plant, "1", "deep", "joined"], 0)
 
 
 def of_points(room):
@@ -253,7 +275,7 @@ def main():
     room, bad, count = tempfile.mkdtemp(prefix="hostile-"), [], 0
     try:
         files(room)
-        for cases in (of_devices, of_words, of_files, of_logs, of_points, of_heads, of_searches):
+        for cases in (of_devices, of_words, of_files, of_logs, of_depths, of_points, of_heads, of_searches):
             for case in cases(room):
                 why, status, seconds, peak = case.run(room)
                 count += 1

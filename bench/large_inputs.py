@@ -54,6 +54,39 @@ def most_entries():
     return text(head, states, STEAM, tables("unit", "u", 24), tasks, runs, outages, *gaps)
 
 
+GREATEST_BYTES = 4_194_304
+
+
+def numbers(count, greatest):
+    """A list of so many numbers, each 1 below this one."""
+    return "[" + ", ".join([str(greatest - 1)] * count) + "]"
+
+
+def long_task(number):
+    """A task of 96 periods that takes from eight of 160 states, gives to eight others, and draws eight of 64 utilities in each of its periods."""
+    lines = ["[[task]]", f'name = "t{number}"', "quantum = 1000000"]
+    for i in range(8):
+        lines += ["[[task.input]]", f'state = "s{(8 * number + i) % 160}"', 'part = "1250/10000"']
+        lines += ["[[task.output]]", f'state = "s{(8 * number + i + 80) % 160}"', 'part = "1250/10000"', "delay = 96"]
+        lines += ["[[task.draw]]", f'utility = "e{(8 * number + i) % 64}"', f"fixed = {numbers(96, 10**6)}", f"each = {numbers(96, 10**6)}"]
+    return lines
+
+
+def greatest():
+    """A plant of version 3 with as much of everything as there may be, in a file that is as large as it may be: 4,096 slots, since each
+    of the 256 runs fits in 16 periods, until its unit is out of use."""
+    states = tables("state", "s", 160, "initial = 500000000", f"limits = {numbers(337, 10**9)}", "price = 1000000", "holding = 1000000")
+    utilities = tables("utility", "e", 64, f"limits = {numbers(336, 10**9)}", f"rates = {numbers(336, 10**6)}")
+    works = [line for t in range(160) for line in long_task(t)]
+    runs = [line for r in range(256) for line in run(r % 160, (r + 7 * (r // 160)) % 96)]
+    outages = [line for n in range(4096) for line in ("[[outage]]", f'unit = "u{n % 96}"', f"from = {111 + n // 96}", "to = 336")]
+    gaps = [gap(n % 96, n // 96, n // 96 + 50, 1) for n in range(4096)]
+    comes = [line for n in range(900) for line in ("[[receipt]]", f'state = "s{n % 160}"', f"time = {n % 337}", "amount = 1000000000")]
+    goes = [line for n in range(900) for line in ("[[delivery]]", f'state = "s{n % 160}"', f"time = {n % 337}", "amount = 1000000000", "payment = 1000000000")]
+    whole = text(["version = 3", "periods = 336"], states, utilities, tables("unit", "u", 96), works, runs, outages, *gaps, comes, goes)
+    return whole + "#" * (GREATEST_BYTES - 1 - len(whole)) + "\n"
+
+
 # What doing nothing earns there: of each of the 40 states there are 1,000,000 mass units, worth 1 at the end and held for 1 in each period.
 WORTH_OF_NOTHING = 40 * 1_000_000 * (1 - 336)
 
@@ -85,3 +118,21 @@ def points(slots, free, found="", started=False):
         one = f"node\nsplit {slot} 1 1 0\n{body}{left_open}" if is_free or started else left_open
         body = f"node\nsplit {slot} 0 1 0\n{none}{one}"
     return "stn-log 2\n" + body + "claim below 1000000000000\nend\n"
+
+
+def deep_plant():
+    """A plant of version 3 with one unit and four slots: logs over it may be as deep as over any large plant."""
+    states = tables("state", "s", 2, "initial = 1000", "limit = 1000000000", "price = 1")
+    sides = ["[[task]]", 'name = "t0"', "quantum = 1", "[[task.input]]", 'state = "s0"', 'part = "1/1"']
+    sides += ["[[task.output]]", 'state = "s1"', 'part = "1/1"', "delay = 1"]
+    return text(["version = 3", "periods = 4"], states, tables("unit", "u", 1), sides, run(0, 0))
+
+
+def deep_log(depth, first):
+    """A valid log of it in which so many splits of slot 1 stand one below another, in the first parts or in the second ones."""
+    split, end, empty = f"node\nsplit 1 {254 if first else 0} 1 0\n", "node\ndual 1 0\n", "node\nempty\n"
+    if first:
+        body = split * depth + end + empty * (depth - 1) + end
+    else:
+        body = split + end + (split + empty) * (depth - 1) + end
+    return "stn-log 4\n" + body + f"claim below {10 ** 12}\nend\n"

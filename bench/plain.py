@@ -23,9 +23,10 @@ from concurrent.futures import ThreadPoolExecutor
 TOP = os.path.dirname(os.path.dirname(os.path.abspath(__file__)))
 SHIM = os.path.join(TOP, "bench", "plain")
 
-# Where the shim of a kit's crate stands; thiserror's derive is taken from the text, so that nothing is left of it.
+# Where the shim of a kit's crate stands; thiserror's derive is taken from the text, so that nothing is left of it, and of toml's
+# parts lemmas alone are used.
 KIT = {"kit": [], "toml": ["kit"], "indexmap": ["kit"], "anyhow": ["kit"]}
-GONE = ("thiserror",)
+GONE = ("thiserror", "toml_parser", "toml_writer")
 
 # What each file begins with, since Rust's own prelude is that of another std.
 PRELUDE = "#[allow(unused_imports)] use std::kit_prelude::*; "

@@ -15,7 +15,8 @@ import collections, os, shutil, subprocess, sys, tempfile
 
 top = os.path.dirname(os.path.dirname(os.path.abspath(__file__)))
 BUILT = os.environ.get("STN_PROGRAM") or os.path.join(top, "built", "stn")
-COMMANDS = ["solve plant 31", "solve plant 31 log", "simulate plant plan", "report plant plan", "check plant proof", "upgrade plant", "demo 1"]
+COMMANDS = ["solve plant 31", "solve plant 31 log", "simulate plant plan", "report plant plan", "check plant proof", "upgrade plant", "roll plant plan 1",
+            "demo 1"]
 REFUSING = r"""
 #include <errno.h>
 #include <stdlib.h>

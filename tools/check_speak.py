@@ -416,8 +416,8 @@ def of_runs():
     unit, third = BASE.find("unit"), BASE.put(0, "version", "3")
     yield plant_case("4, last in version 2", BASE.put(unit, "last", '"make"'), "4 unit 1 0 -", BASE.put(unit, "last", "1").line(unit, "last"),
                      "the key `last`", "version 3 knows it")
-    for key, value, kind, says in (("last", "7", 6, "should hold a text"), ("until", '"1"', 6, "should hold a whole number"), ("until", "5", 7, "-96 to 4, the horizon"),
-                                   ("until", "-97", 7, "-96 to 4, the horizon"), ("until", "1", 23, "and no `last`"), ("last", '"mike"', 10, "did you mean `make`?")):
+    for key, value, kind, says in (("last", "7", 6, "should hold a text"), ("until", '"1"', 6, "should hold a whole number"), ("until", "5", 7, "-336 to 4, the horizon"),
+                                   ("until", "-337", 7, "-336 to 4, the horizon"), ("until", "1", 23, "and no `last`"), ("last", '"mike"', 10, "did you mean `make`?")):
         wrong = third.put(unit, key, value)
         yield plant_case(f"{kind} unit {key} {value}", wrong, f"{kind} unit 1 0 {key}", wrong.line(unit, key), "the 1st unit (`U`)", says)
     gap = BASE.find("gap")
@@ -514,6 +514,8 @@ def of_plans():
     yield case("load", "0 U make 2\n0 V make 2\n", "broken load steam 0", "`steam` in period 0 is 8, 3 above its limit of 5", "4 by `make` on `V` in period 0")
     yield case("replan: places of what is kept", "2 U make 1\n1 V make 1\n", "broken unfit 1", "(1 quantum, line 2)", "outage",
                words=("replan", "plant.toml", "a.plan", "2", "9"))
+    yield case("roll: places of what is kept", "2 U make 1\n1 V make 1\n", "broken unfit 1", "(1 quantum, line 2)", "outage",
+               words=("roll", "plant.toml", "a.plan", "2"))
     yield case("improve", "1 U make 1\n0 U rest 1\n", "broken busy 1 2", "meet on `U`", words=("improve", "plant.toml", "a.plan", "9"))
     yield Case("violations", ["violations", "plant.toml", "a.plan"], "violations 3", "a.plan: the plan is not feasible, 3 violations", "takes 1 to 4",
                "`U` is not clean", "1 period too early", "`steam` in period 0 is 7, 2 above its limit of 5",
@@ -591,6 +593,7 @@ def of_words():
                               ("SEED", "-1", ["demo"]), ("LEVELS", "9", ["parts", "plant.toml"])):
         yield case(f"{name} {word}", [*words, word], f"{name} is `{word}`", f"from {texts.means('word', name).split(' ')[0]} to {texts.means('word', name).split(' ')[2]}")
     yield case("PERIOD", ["replan", "plant.toml", "a.plan", "337", "1"], "PERIOD is `337`", "0 to 336")
+    yield case("the last word of roll", ["roll", "plant.toml", "a.plan", "1", "plna"], "the last word is `plna`", "should be `plan`; did you mean `plan`?")
     yield case("PART", ["solve-part", "plant.toml", "2", "4", "1", "b.log"], "PART is `4`", "0 to 3")
     yield case("STEP", ["whatif", "plant.toml", "a.log", "prod", "-0", "1"], "STEP is `-0`", "-1,000,000,000 to 1,000,000,000")
     yield case("COUNT", ["whatif", "plant.toml", "a.log", "prod", "1", "51"], "COUNT is `51`", "1 to 50")
@@ -606,6 +609,9 @@ def of_words():
     yield case("an empty word", ["check", "", "a.log"], "PLANT is an empty word")
     yield case("STATE", ["whatif", "plant.toml", "a.log", "proud", "1", "1"], "no state `proud`", "did you mean `prod`?", answer="refused state")
     yield case("STATE without limits", ["whatif", "plant.toml", "a.log", "feed", "1", "1"], "`feed` has no limit", "`prod`", answer="refused state")
+    yield case("PERIOD of roll", ["roll", "plant.toml", "a.plan", "3"], "PERIOD is 3", "the periods 0 to 2", answer="refused period", **{"a.plan": ""})
+    hoard = TINY.replace("version = 2", "version = 3") + '[[receipt]]\nstate = "feed"\ntime = 2\namount = 1_000_000_000\n' * 899 + '[[receipt]]\nstate = "feed"\ntime = 0\namount = 1_000_000_000\n'
+    yield case("receipts of roll", ["roll", "hoard.toml", "a.plan", "1"], "more than 900 receipts", answer="refused roll", **{"a.plan": "0 U make 3\n", "hoard.toml": hoard})
     yield case("LEVELS", ["parts", "odd.toml", "3"], "LEVELS is 3", "2 slots", answer="refused levels", **{"odd.toml": ODD})
 
 

@@ -298,7 +298,8 @@ def main(words):
             comparison.ask(f"mutant {number} of {name}", plant, mutated(log, dice))
         for number in range(MUTANT_PLANTS):
             name, plant, log = dice.choice(small)
-            other = mutated(plant, dice) if number % 5 else dice.choice(small)[1]
+            # (the program's reader of TOML takes a carriage return alone for a line's end, Python's refuses it)
+            other = mutated(plant, dice).replace(b"\r", b"\n") if number % 5 else dice.choice(small)[1]
             comparison.ask(f"plant {number} in the place of {name}", other, log)
     print("compare:", ", ".join(f"{count} {kind}" for kind, count in sorted(comparison.seen.items())))
     print(f"compare: {comparison.asked} logs, {comparison.differ} differences")

@@ -8,7 +8,7 @@ else
     _stn_commands="$_stn_commands/../../../lib/stn/tools/commands.txt"
 fi
 
-# What the word at a place of a command is called in its form, in capitals; nothing beyond its last word.
+# What the word at a place of a command is called in its form, in capitals, or is itself; nothing beyond its last word.
 _stn_word() {
     awk -v command="$1" -v place="$2" '$1 == "form" && $2 == command { print $(place + 2); exit }' "$_stn_commands" | tr -d '[]!'
 }
@@ -41,6 +41,7 @@ _stn() {
         PREFIX) mapfile -t COMPREPLY < <(compgen -d -- "$current") ;;
         PLANT) mapfile -t COMPREPLY < <(compgen -d -S / -- "$current"; compgen -f -X '!*.toml' -- "$current") ;;
         TABLE) mapfile -t COMPREPLY < <(compgen -W "stocks loads units deliveries" -- "$current") ;;
+        plan) mapfile -t COMPREPLY < <(compgen -W "plan" -- "$current") ;;
         PLAN | LOG | STEM | OUT) mapfile -t COMPREPLY < <(compgen -f -- "$current") ;;
     esac
 }

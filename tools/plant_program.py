@@ -237,7 +237,7 @@ class PlantFile:
         for table in self.tables("unit", self.most("unit"), "name" + " last until" * (self.version == 3)):
             self.plant.units.append(table.own_name(self.names["unit"]))
             has_last = "last" in table.keys and table.get("last", [str]) is not None
-            until = table.whole("until", -96, self.plant.periods, 0)
+            until = table.whole("until", -336, self.plant.periods, 0)
             if "until" in table.keys and not has_last:
                 table.refuse(23, "until")
             self.held_last.append((table, until) if has_last else None)

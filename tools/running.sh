@@ -25,6 +25,16 @@ is_explained() {
     [ -z "$quiet" ] && [ -x "$here/tools/speak" ] && [ -e /dev/fd/1 ]
 }
 
+# Raises the soft limit of the stack to 128 MiB, or to the hard limit where that is less: some commands take up to 2 KB of stack for
+# each of the 36,864 splits that may stand one below another in a proof.
+raise_stack() {
+    local most=131072 soft hard
+    soft="$(ulimit -S -s)"
+    hard="$(ulimit -H -s)"
+    [ "$hard" = unlimited ] || [ "$hard" -gt "$most" ] || most="$hard"
+    [ "$soft" = unlimited ] || [ "$soft" -ge "$most" ] || ulimit -S -s "$most" 2>/dev/null || true
+}
+
 # Starts the program as `child`, on the caller's input and with a copy of what it puts where that is explained.
 start_program() {
     { exec 3<&0; } 2>/dev/null || exec 3</dev/null

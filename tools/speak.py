@@ -85,6 +85,11 @@ class Run:
     def status_5(self):
         if self.line[1:2] == ["state"]:
             return self.no_state()
+        if self.line[1:2] == ["period"]:
+            periods = Plant(self.root()).periods
+            return sentences(f"PERIOD is {self.form['PERIOD']}, and the plant has the periods 0 to {periods - 1}", do("answer", "period"))
+        if self.line[1:2] == ["roll"]:
+            return row("answer", "roll")
         slots = sum(len(it) for it in Plant(self.root()).slots())
         return sentences(f"LEVELS is {self.form['LEVELS']}, and the plant has {slots} slots alone", do("answer", "levels"))
 

@@ -7,7 +7,7 @@
 
 The program does all planning and checking; this package writes its files and reads its answers, and claims nothing beyond them.
 """
-from .answers import Claim, Least, Picture, Report, Solution, Standing, Tank, Violation
+from .answers import Claim, Least, Picture, Report, Rolled, Solution, Standing, Tank, Violation
 from .errors import (BrokenPlan, GridFault, InvalidLog, NoCommand, NotInstalled, OutOfTime, ProgramEnded, ProgramMissing, Refused,
                      SheetFault, StnError)
 from .files import Log
@@ -19,6 +19,6 @@ from .sheets import read_csv, read_workbook, write_csv, write_workbook
 __all__ = [
     "Batch", "BrokenPlan", "Claim", "Delivery", "Draw", "Gap", "Grid", "GridFault", "Input", "InvalidLog", "Least", "Log", "NoCommand",
     "NotInstalled", "OutOfTime", "Outage", "Output", "Picture", "Plan", "Plant", "ProgramEnded", "ProgramMissing", "Receipt", "Refused",
-    "Report", "Run", "SheetFault", "Solution", "Standing", "State", "StnError", "Tank", "Task", "Unit", "Utility",
+    "Report", "Rolled", "Run", "SheetFault", "Solution", "Standing", "State", "StnError", "Tank", "Task", "Unit", "Utility",
     "Violation", "from_dictionary", "read_csv", "read_workbook", "write_csv", "write_workbook",
 ]

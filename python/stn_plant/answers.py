@@ -120,6 +120,20 @@ class Standing:
 
 
 @dataclass
+class Rolled:
+    """The answer of `roll`: a plan of the rolled plant, put behind the starts before, earns `earned` more than on the rolled plant.
+
+    earned: what was earned before the period.
+    plant: the plant from the period on; its times count from there.
+    plan: the starts of the plan from the period on, as a plan of that plant.
+    """
+
+    earned: int
+    plant: object
+    plan: Plan
+
+
+@dataclass
 class Violation:
     """One line of `violations`.
 

@@ -41,8 +41,8 @@ class ProgramEnded(StnError):
 class Refused(StnError):
     """The program refused what it was given.
 
-    subject: `plant`, `plan`, `words`, `state` or `levels`, as in docs/formats.md.
-    kind: the number of the fault there; nothing for `words`, `state` and `levels`.
+    subject: `plant`, `plan`, `words`, `state`, `levels`, `period` or `roll`, as in docs/formats.md.
+    kind: the number of the fault there; nothing but for `plant` and `plan`.
     place: table, item, inner item and key of a plant's fault, items from 1 and 0 for none; else nothing.
     file: the file that has the fault; nothing for what was made in Python.
     line, column: where in that file, or in `text`, the text that the program was given; a sheet's column is its name.

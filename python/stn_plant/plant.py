@@ -8,7 +8,7 @@ from dataclasses import dataclass, field
 from pathlib import Path
 
 from . import slices, toml_text
-from .answers import Claim, Least, Picture, Report, Solution, Standing, Tank, Violation, numbered, rows
+from .answers import Claim, Least, Picture, Report, Rolled, Solution, Standing, Tank, Violation, numbered, rows
 from .asking import Question, logs_of
 from .errors import StnError
 from .files import Log, look_for_room, write_whole
@@ -222,6 +222,15 @@ class Plant:
         with Question(self, timeout) as question:
             ran = question.ask("replan", "plant.toml", question.plan(plan), period, boxes, "proof.log")
             return Solution.of(ran.lines(), self, kept(question, log))
+
+    def roll(self, plan, period, timeout=None):
+        """The plant from a period on, where the starts of a plan before it have been carried out; and the rest of the plan."""
+        with Question(self, timeout) as question:
+            question.wants("roll", "no.toml", "no.plan", "1", instead="use replan")
+            words = ["roll", "plant.toml", question.plan(plan), period]
+            first, rolled = question.ask(*words).out.split("\n", 1)
+            plant = Plant.of_upgrade(rolled)
+            return Rolled(int(first.removeprefix("# rolled ")), plant, Plan.of(question.ask(*words, "plan").out, plant))
 
     def improve(self, plan, boxes=1000, *, log=None, timeout=None):
         """Plans the plant from a feasible plan on: the answer earns at least as much."""

@@ -151,6 +151,21 @@ class Asking(unittest.TestCase):
         with self.assertRaises(BrokenPlan):
             five.improve([(0, "heater", "heat", 11)])
 
+    def test_rolling_on(self):
+        five, plan = Plant.read(EXAMPLES / "five.toml"), EXAMPLES / "five.plan"
+        rolled = five.roll(plan, 3)
+        self.assertEqual((rolled.earned, rolled.plant.periods, rolled.plant.version), (-6, 4, 3))
+        self.assertEqual([(it.name, it.last, it.until) for it in rolled.plant.unit[:3]], [("heater", "heat", -1), ("r1", "react2", 1), ("r2", None, 0)])
+        self.assertEqual([(it.state, it.time, it.amount) for it in rolled.plant.receipt], [("IntAB", 1, 48), ("Prod1", 1, 32)])
+        self.assertEqual([it.line() for it in rolled.plan], ["1 r1 react3 6", "2 still sep 6"])
+        self.assertEqual(rolled.plant.simulate(rolled.plan).profit + rolled.earned, 854)
+        self.assertEqual(rolled.plant.solve(boxes=2000).profit + rolled.earned, 1248)
+        with self.assertRaises(Refused) as raised:
+            five.roll(plan, 7)
+        self.assertEqual(raised.exception.subject, "period")
+        with self.assertRaises(BrokenPlan):
+            five.roll([(0, "heater", "heat", 11)], 1)
+
     def test_other_tanks(self):
         tank = Plant.read(EXAMPLES / "tank.toml")
         found = tank.whatif(EXAMPLES / "tank.log", "prod", 2, 3)

@@ -104,6 +104,8 @@ class Commands(unittest.TestCase):
         with stand_in("print('refused words'); sys.exit(2)"):
             with self.assertRaisesRegex(NoCommand, "`improve`.*solve or replan"):
                 PLANT.improve([])
+            with self.assertRaisesRegex(NoCommand, "`roll`.*replan"):
+                PLANT.roll([], 1)
             with self.assertRaisesRegex(NoCommand, "`resume`.*boxes="):
                 PLANT.solve(seconds=1)
 

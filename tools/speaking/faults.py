@@ -125,7 +125,7 @@ def range_of(fault, what):
     if fault.key == "time" or (fault.table == "outage" and fault.key == "to"):
         return f"{0 if fault.key == 'time' else 1} to {periods}, the horizon,"
     if fault.key == "until":
-        return f"-96 to {periods}, the horizon,"
+        return f"-336 to {periods}, the horizon,"
     if fault.table == "outage" and fault.key == "from":
         return f"0 to {periods - 1}, the last period,"
     return fields.allowed(what)

@@ -11,7 +11,9 @@ WRITES = {"solve": ("LOG", "STEM"), "replan": ("LOG",), "solve-part": ("LOG",), 
 
 
 def form_of(words):
-    """The form that the words have by their number, as pairs of a name and a word; or nothing. `solve --seconds` is of the wrapper."""
+    """The form that the words have by their number, as pairs of a name and a word; or nothing. `solve --seconds` is of the wrapper.
+
+    A word of a form in small letters stands as it is, and its name is itself."""
     if words[:2] == ["solve", "--seconds"]:
         return dict(zip(("SECONDS", "PLANT", "LOG"), words[2:]))
     for form in FORMS:
@@ -57,6 +59,8 @@ def faults(words, form):
                    "without leading zeros or commas")
         elif choices(name) and word not in choices(name):
             yield f"{name} is `{short(word, 40)}`, and should be {means('word', name)}{meant(word, choices(name))}"
+        elif name.islower() and word != name:
+            yield f"the last word is `{short(word, 40)}`, and should be `{name}`{meant(word, [name])}, or be left out"
         elif name in FILES and word == "":
             yield f"{name} is an empty word, and should name a file"
     written = [it for it in ("LOG", "OUT") if it in form and it in WRITES.get(words[0], ())]

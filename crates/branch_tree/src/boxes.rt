@@ -293,32 +293,17 @@ fn search_parts<H: Hinter, G: Guide, O, T: NodeTaker<Rows, O>>(
     ensures failed { IsErrOf result TakeStop.Failed → Rose (T.faults out.old) (T.faults out.new) }
 {
     let mark = ground.rows.mark(area);
+    let below = depth + 1;
     let _ = ground.rows.left(area, pick);
     reached.changed = slot_alone(pick);
     let first = search_part(
-        ground,
-        area,
-        depth + 1,
-        cert,
-        reached,
-        hinter,
-        guide,
-        taker,
-        out,
+        ground, area, below, cert, reached, hinter, guide, taker, out,
     )?;
     ground.rows.back(area, mark);
     let _ = ground.rows.right(area, pick);
     reached.changed = slot_alone(pick);
     let second = search_part(
-        ground,
-        area,
-        depth + 1,
-        cert,
-        reached,
-        hinter,
-        guide,
-        taker,
-        out,
+        ground, area, below, cert, reached, hinter, guide, taker, out,
     )?;
     ground.rows.back(area, mark);
     Ok(greater_cap(first, second))

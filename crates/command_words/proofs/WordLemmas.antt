@@ -5,9 +5,7 @@ use lib.Pointwise.{pointwise}
 use Rattle.std.proofs.Common.{◌≡◌, true, false, ◌∙◌, ap, ℕ, ℤ, ◌<◌, ◌≤◌, List, [], ◌∷◌, length, get_or, refl, arith, Bor}
 use Rattle.std.specs.Prelude.{Option, Some, None, MatchOption}
 use Rattle.command_words.specs.declared.command.Command.{Command}
-use Rattle.command_words.specs.declared.command.PlanUse.TheVariants.{Simulate, Report, Picture, Table, Violations}
-use Rattle.plan_tables.specs.declared.kind.TableKind.{TableKind}
-use Rattle.command_words.specs.Words.{texts, Request, Says, HasNoForm, Solving, Logging, Simulating, Checking, Telling, Numbering, Upgrading, Showing, Replanning, ReplanLogging, CheckingReplan, Improving, Estimating, Seeking, Tracing, Auditing, Parting, PartSolving, Joining, Resuming, Merging, NoListing, NoHorizons, NoParts, meaning, NoConflicts, Conflicting, ConflictLogging, CheckingConflict}
+use Rattle.command_words.specs.Words.{texts, Request, Says, HasNoForm, Solving, Logging, Simulating, Checking, Telling, Numbering, Upgrading, Showing, Replanning, ReplanLogging, CheckingReplan, Rolling, Improving, Estimating, Seeking, Tracing, Auditing, Parting, PartSolving, Joining, Resuming, Merging, NoPlant, NoPlan, NoReplanning, NoLog, NoListing, NoHorizons, NoParts, meaning, NoConflicts, Conflicting, ConflictLogging, CheckingConflict}
 
 -- three words are the list of their texts
 pub three_texts : (words : List (Bor (List ℕ))) (d : Bor (List ℕ)) → 3 ≤ length words → length words < 4 → texts words ≡ (get_or words 0 d).now ∷ (get_or words 1 d).now ∷ (get_or words 2 d).now ∷ []
@@ -88,71 +86,59 @@ six_words words d first least most same =
     six_texts words d least most
     ∙ ap (λ (x : List ℕ). x ∷ (get_or words 1 d).now ∷ (get_or words 2 d).now ∷ (get_or words 3 d).now ∷ (get_or words 4 d).now ∷ (get_or words 5 d).now ∷ []) (same_text _ _ same)
 
--- the words say no request of two files with this first word
-abbrev NoFiles : List (List ℕ) → (List ℕ → List ℕ → Request) → Type 0
-NoFiles words request = (first second : List ℕ) → ¬ Says words (request first second)
-
--- the words say no planning, with or without a log
-abbrev NoPlanning : List (List ℕ) → Type 0
-NoPlanning words = ((plant : List ℕ) (budget : ℕ) → ¬ Says words (Solving plant budget)) × ((plant log : List ℕ) (budget : ℕ) → ¬ Says words (Logging plant budget log))
-
--- the words say no planning from a plan or a log that is given, with or without a log, and no check of one
-pub record NoReplanning (words : List (List ℕ)) : Type 0 where
-  pub replan : (plant plan : List ℕ) (period budget : ℕ) → ¬ Says words (Replanning plant plan period budget)
-  pub log : (plant plan log : List ℕ) (period budget : ℕ) → ¬ Says words (ReplanLogging plant plan period budget log)
-  pub check : (plant plan log : List ℕ) (period : ℕ) → ¬ Says words (CheckingReplan plant plan period log)
-  pub improve : (plant plan : List ℕ) (budget : ℕ) (log : Option (List ℕ)) → ¬ Says words (Improving plant plan budget log)
-  pub resume : (plant log out : List ℕ) (budget : ℕ) (share : Option (ℕ × ℕ)) → ¬ Says words (Resuming plant log budget out share)
-  pub merge : (plant stem out : List ℕ) (count : ℕ) → ¬ Says words (Merging plant stem count out)
-
--- the words say no estimate by an old log
-abbrev NoEstimate : List (List ℕ) → Type 0
-NoEstimate words = (plant log state : List ℕ) (step : ℤ) (count : ℕ) → ¬ Says words (Estimating plant log state step count)
-
--- the words say no table of a plan
-abbrev pub NoTables : List (List ℕ) → Type 0
-NoTables words = (kind : TableKind) → NoFiles words (Simulating (Table kind))
-
--- the words say nothing of a plant alone, no seed, and no table of a plan
-abbrev NoOther : List (List ℕ) → Type 0
-NoOther words = ((plant : List ℕ) → ¬ Says words (Upgrading plant)) × ((seed : ℕ) → ¬ Says words (Showing seed)) × NoTables words
-
 -- words that have none of the forms
-pub has_no_form : (words : List (List ℕ)) → NoPlanning words → NoFiles words (Simulating Simulate) → NoFiles words (Simulating Report) → NoFiles words (Simulating Picture) → NoFiles words (Simulating Violations) → NoFiles words Checking → NoReplanning words → NoEstimate words → NoListing words → NoOther words → NoHorizons words → NoConflicts words → NoParts words → HasNoForm words
-has_no_form words solve simulate report picture violations check replan estimate list other least conflict parts (Solving plant budget) = solve.0 plant budget
-has_no_form words solve simulate report picture violations check replan estimate list other least conflict parts (Logging plant budget log) = solve.1 plant log budget
-has_no_form words solve simulate report picture violations check replan estimate list other least conflict parts (Simulating Simulate plant plan) = simulate plant plan
-has_no_form words solve simulate report picture violations check replan estimate list other least conflict parts (Simulating Report plant plan) = report plant plan
-has_no_form words solve simulate report picture violations check replan estimate list other least conflict parts (Simulating Picture plant plan) = picture plant plan
-has_no_form words solve simulate report picture violations check replan estimate list other least conflict parts (Simulating Violations plant plan) = violations plant plan
-has_no_form words solve simulate report picture violations check replan estimate list other least conflict parts (Simulating (Table kind) plant plan) = other.2 kind plant plan
-has_no_form words solve simulate report picture violations check replan estimate list other least conflict parts (Checking plant log) = check plant log
-has_no_form words solve simulate report picture violations check replan estimate list other least conflict parts (Telling plant log) = list.telling plant log
-has_no_form words solve simulate report picture violations check replan estimate list other least conflict parts (Numbering plant) = list.numbering plant
-has_no_form words solve simulate report picture violations check replan estimate list other least conflict parts (Upgrading plant) = other.0 plant
-has_no_form words solve simulate report picture violations check replan estimate list other least conflict parts (Showing seed) = other.1 seed
-has_no_form words solve simulate report picture violations check replan estimate list other least conflict parts (Replanning plant plan period budget) = replan.replan plant plan period budget
-has_no_form words solve simulate report picture violations check replan estimate list other least conflict parts (ReplanLogging plant plan period budget log) = replan.log plant plan log period budget
-has_no_form words solve simulate report picture violations check replan estimate list other least conflict parts (CheckingReplan plant plan period log) = replan.check plant plan log period
-has_no_form words solve simulate report picture violations check replan estimate list other least conflict parts (Improving plant plan budget log) = replan.improve plant plan budget log
-has_no_form words solve simulate report picture violations check replan estimate list other least conflict parts (Estimating plant log state step count) = estimate plant log state step count
-has_no_form words solve simulate report picture violations check replan estimate list other least conflict parts (Seeking plant budget) = least.seeking plant budget
-has_no_form words solve simulate report picture violations check replan estimate list other least conflict parts (Tracing plant budget stem) = least.tracing plant stem budget
-has_no_form words solve simulate report picture violations check replan estimate list other least conflict parts (Auditing plant horizon stem) = least.auditing plant stem horizon
-has_no_form words solve simulate report picture violations check replan estimate list other least conflict parts (Conflicting plant budget) = conflict.finding plant budget
-has_no_form words solve simulate report picture violations check replan estimate list other least conflict parts (ConflictLogging plant budget stem) = conflict.logging plant stem budget
-has_no_form words solve simulate report picture violations check replan estimate list other least conflict parts (CheckingConflict plant stem) = conflict.checking plant stem
-has_no_form words solve simulate report picture violations check replan estimate list other least conflict parts (Parting plant levels) = parts.parting plant levels
-has_no_form words solve simulate report picture violations check replan estimate list other least conflict parts (PartSolving plant levels part budget log) = parts.solving plant log levels part budget
-has_no_form words solve simulate report picture violations check replan estimate list other least conflict parts (Joining plant levels stem log) = parts.joining plant stem log levels
-has_no_form words solve simulate report picture violations check replan estimate list other least conflict parts (Resuming plant log budget out share) = replan.resume plant log out budget share
-has_no_form words solve simulate report picture violations check replan estimate list other least conflict parts (Merging plant stem count out) = replan.merge plant stem out count
+pub has_no_form : (words : List (List ℕ)) → NoPlant words → NoPlan words → NoReplanning words → NoLog words → NoHorizons words → NoConflicts words → NoParts words → HasNoForm words
+has_no_form words plant plan replan log least conflict parts (Solving file budget) = plant.solving file budget
+has_no_form words plant plan replan log least conflict parts (Logging file budget name) = plant.logging file name budget
+has_no_form words plant plan replan log least conflict parts (Simulating usage file starts) = plan.simulating usage file starts
+has_no_form words plant plan replan log least conflict parts (Checking file name) = log.checking file name
+has_no_form words plant plan replan log least conflict parts (Telling file name) = log.listing.telling file name
+has_no_form words plant plan replan log least conflict parts (Numbering file) = log.listing.numbering file
+has_no_form words plant plan replan log least conflict parts (Upgrading file) = plant.upgrading file
+has_no_form words plant plan replan log least conflict parts (Showing seed) = plant.showing seed
+has_no_form words plant plan replan log least conflict parts (Replanning file starts period budget) = replan.replanning file starts period budget
+has_no_form words plant plan replan log least conflict parts (ReplanLogging file starts period budget name) = replan.logging file starts name period budget
+has_no_form words plant plan replan log least conflict parts (CheckingReplan file starts period name) = replan.checking file starts name period
+has_no_form words plant plan replan log least conflict parts (Rolling file starts period rest) = plan.rolling file starts period rest
+has_no_form words plant plan replan log least conflict parts (Improving file starts budget name) = replan.improving file starts budget name
+has_no_form words plant plan replan log least conflict parts (Estimating file name state step count) = log.estimating file name state step count
+has_no_form words plant plan replan log least conflict parts (Seeking file budget) = least.seeking file budget
+has_no_form words plant plan replan log least conflict parts (Tracing file budget stem) = least.tracing file stem budget
+has_no_form words plant plan replan log least conflict parts (Auditing file horizon stem) = least.auditing file stem horizon
+has_no_form words plant plan replan log least conflict parts (Conflicting file budget) = conflict.finding file budget
+has_no_form words plant plan replan log least conflict parts (ConflictLogging file budget stem) = conflict.logging file stem budget
+has_no_form words plant plan replan log least conflict parts (CheckingConflict file stem) = conflict.checking file stem
+has_no_form words plant plan replan log least conflict parts (Parting file levels) = parts.parting file levels
+has_no_form words plant plan replan log least conflict parts (PartSolving file levels part budget name) = parts.solving file name levels part budget
+has_no_form words plant plan replan log least conflict parts (Joining file levels stem name) = parts.joining file stem name levels
+has_no_form words plant plan replan log least conflict parts (Resuming file name budget out share) = log.resuming file name out budget share
+has_no_form words plant plan replan log least conflict parts (Merging file stem count out) = log.merging file stem out count
 
 -- the last form decides
-pub last_form : (words : List (List ℕ)) (command : Option Command) → NoPlanning words → NoFiles words (Simulating Simulate) → NoFiles words (Simulating Report) → NoFiles words (Simulating Picture) → NoFiles words (Simulating Violations) → NoFiles words Checking → NoReplanning words → NoEstimate words → NoListing words → NoOther words → NoHorizons words → NoConflicts words
+pub last_form : (words : List (List ℕ)) (command : Option Command) → NoPlant words → NoPlan words → NoReplanning words → NoLog words → NoHorizons words → NoConflicts words
     → MatchOption command (NoParts words) (λ c. Says words (meaning c)) → MatchOption command (HasNoForm words) (λ c. Says words (meaning c))
-last_form words None solve simulate report picture violations check replan estimate list other least conflict parts = has_no_form words solve simulate report picture violations check replan estimate list other least conflict parts
-last_form words (Some command) solve simulate report picture violations check replan estimate list other least conflict parts = parts
+last_form words None plant plan replan log least conflict parts = has_no_form words plant plan replan log least conflict parts
+last_form words (Some command) plant plan replan log least conflict parts = parts
+
+-- the last form of those on a plant alone
+pub last_plant_form : (words : List (List ℕ)) (command : Option Command) → ((plant : List ℕ) (budget : ℕ) → ¬ Says words (Solving plant budget)) → ((plant log : List ℕ) (budget : ℕ) → ¬ Says words (Logging plant budget log))
+    → ((plant : List ℕ) → ¬ Says words (Upgrading plant)) → MatchOption command ((seed : ℕ) → ¬ Says words (Showing seed)) (λ c. Says words (meaning c)) → MatchOption command (NoPlant words) (λ c. Says words (meaning c))
+last_plant_form words None solve log upgrade demo = record { solving = solve; logging = log; upgrading = upgrade; showing = demo }
+last_plant_form words (Some command) solve log upgrade demo = demo
+
+-- the last form of those that keep starts of a plan or begin with one
+pub last_replan_form : (words : List (List ℕ)) (command : Option Command) → ((plant plan : List ℕ) (period budget : ℕ) → ¬ Says words (Replanning plant plan period budget))
+    → ((plant plan log : List ℕ) (period budget : ℕ) → ¬ Says words (ReplanLogging plant plan period budget log)) → ((plant plan log : List ℕ) (period : ℕ) → ¬ Says words (CheckingReplan plant plan period log))
+    → MatchOption command ((plant plan : List ℕ) (budget : ℕ) (log : Option (List ℕ)) → ¬ Says words (Improving plant plan budget log)) (λ c. Says words (meaning c)) → MatchOption command (NoReplanning words) (λ c. Says words (meaning c))
+last_replan_form words None replan log check improve = record { replanning = replan; logging = log; checking = check; improving = improve }
+last_replan_form words (Some command) replan log check improve = improve
+
+-- the last form of those on logs that are given
+pub last_log_form : (words : List (List ℕ)) (command : Option Command) → ((plant log : List ℕ) → ¬ Says words (Checking plant log)) → NoListing words
+    → ((plant log state : List ℕ) (step : ℤ) (count : ℕ) → ¬ Says words (Estimating plant log state step count)) → ((plant log out : List ℕ) (budget : ℕ) (share : Option (ℕ × ℕ)) → ¬ Says words (Resuming plant log budget out share))
+    → MatchOption command ((plant stem out : List ℕ) (count : ℕ) → ¬ Says words (Merging plant stem count out)) (λ c. Says words (meaning c)) → MatchOption command (NoLog words) (λ c. Says words (meaning c))
+last_log_form words None check list estimate resume merge = record { checking = check; listing = list; estimating = estimate; resuming = resume; merging = merge }
+last_log_form words (Some command) check list estimate resume merge = merge
 
 -- the last form of those that list what a log or a plant holds
 pub last_listing_form : (words : List (List ℕ)) (command : Option Command) → ((plant log : List ℕ) → ¬ Says words (Telling plant log))

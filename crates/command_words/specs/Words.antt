@@ -1,5 +1,5 @@
 -- The words of a command.
-use Rattle.std.specs.Prelude.{◌≡◌, ◌≢◌, ℕ, ℤ, ◌<◌, ◌≤◌, ◌^◌, unsigned_abs, List, [], ◌∷◌, map, codes, decimal, Option, Some, None, IfSome}
+use Rattle.std.specs.Prelude.{◌≡◌, ◌≢◌, ℕ, ℤ, ◌<◌, ◌≤◌, ◌^◌, unsigned_abs, Bool, true, false, List, [], ◌∷◌, map, codes, decimal, Option, Some, None, IfSome}
 use Rattle.std.specs.Option.{option_map}
 use Rattle.std.specs.Fmt.{signed_decimal}
 use Rattle.proof_log.specs.LogNames.{log_name}
@@ -25,6 +25,7 @@ pub data Request : Type 0 where
   Replanning : (plant plan : List ℕ) (period budget : ℕ) → Request
   ReplanLogging : (plant plan : List ℕ) (period budget : ℕ) (log : List ℕ) → Request
   CheckingReplan : (plant plan : List ℕ) (period : ℕ) (log : List ℕ) → Request
+  Rolling : (plant plan : List ℕ) (period : ℕ) (rest : Bool) → Request
   Improving : (plant plan : List ℕ) (budget : ℕ) (log : Option (List ℕ)) → Request
   Estimating : (plant log state : List ℕ) (step : ℤ) (count : ℕ) → Request
   Seeking : (plant : List ℕ) (budget : ℕ) → Request
@@ -128,6 +129,11 @@ abbrev pub log_words : Option (List ℕ) → List (List ℕ)
 log_words None = []
 log_words (Some log) = log ∷ []
 
+-- the last word where the rest of the plan is asked for and not the plant
+abbrev pub rest_words : Bool → List (List ℕ)
+rest_words false = []
+rest_words true = codes "plan" ∷ []
+
 -- the words are the number of a share and how many shares there are, in decimal digits, without sign and leading zeros
 pub record AreShares (word words : List ℕ) (number shares : ℕ) : Type 0 where
   pub digits : word ≡ decimal number
@@ -170,6 +176,8 @@ Says words (ReplanLogging plant plan period budget log) =
     × (plant ≢ []) × (plan ≢ []) × (log ≢ []) × (log ≢ plant) × (log ≢ plan) × IsPeriod from period × IsBudget most budget))
 Says words (CheckingReplan plant plan period log) =
     (from : List ℕ) × ((words ≡ codes "check-replan" ∷ plant ∷ plan ∷ from ∷ log ∷ []) × (plant ≢ []) × (plan ≢ []) × (log ≢ []) × IsPeriod from period)
+Says words (Rolling plant plan period rest) =
+    (from : List ℕ) × ((words ≡ codes "roll" ∷ plant ∷ plan ∷ from ∷ rest_words rest) × (plant ≢ []) × (plan ≢ []) × IsPeriod from period)
 Says words (Improving plant plan budget log) =
     (most : List ℕ) × ((words ≡ codes "improve" ∷ plant ∷ plan ∷ most ∷ log_words log) × (plant ≢ []) × (plan ≢ []) × IfSome log (IsLogBeside plant plan) × IsBudget most budget)
 Says words (Estimating plant log state step count) =
@@ -200,10 +208,38 @@ Says words (Merging plant stem count out) =
 abbrev pub HasNoForm : List (List ℕ) → Type 0
 HasNoForm words = (request : Request) → ¬ Says words request
 
+-- the words say no planning of a plant alone, no printing of one, and no demonstration
+pub record NoPlant (words : List (List ℕ)) : Type 0 where
+  pub solving : (plant : List ℕ) (budget : ℕ) → ¬ Says words (Solving plant budget)
+  pub logging : (plant log : List ℕ) (budget : ℕ) → ¬ Says words (Logging plant budget log)
+  pub upgrading : (plant : List ℕ) → ¬ Says words (Upgrading plant)
+  pub showing : (seed : ℕ) → ¬ Says words (Showing seed)
+
+-- the words say no request that simulates a plan or carries one on
+pub record NoPlan (words : List (List ℕ)) : Type 0 where
+  pub simulating : (usage : PlanUse) (plant plan : List ℕ) → ¬ Says words (Simulating usage plant plan)
+  pub rolling : (plant plan : List ℕ) (period : ℕ) (rest : Bool) → ¬ Says words (Rolling plant plan period rest)
+
+-- the words say no planning that keeps starts of a plan or begins with one, and no check of its log
+pub record NoReplanning (words : List (List ℕ)) : Type 0 where
+  pub replanning : (plant plan : List ℕ) (period budget : ℕ) → ¬ Says words (Replanning plant plan period budget)
+  pub logging : (plant plan log : List ℕ) (period budget : ℕ) → ¬ Says words (ReplanLogging plant plan period budget log)
+  pub checking : (plant plan log : List ℕ) (period : ℕ) → ¬ Says words (CheckingReplan plant plan period log)
+  pub improving : (plant plan : List ℕ) (budget : ℕ) (log : Option (List ℕ)) → ¬ Says words (Improving plant plan budget log)
+
 -- the words say no request to list what a log or a plant holds
 pub record NoListing (words : List (List ℕ)) : Type 0 where
   pub telling : (plant log : List ℕ) → ¬ Says words (Telling plant log)
   pub numbering : (plant : List ℕ) → ¬ Says words (Numbering plant)
+
+-- the words say no request on logs that are given: to check one, to list what it or a plant holds, to estimate by it, to go on from it
+-- or to merge several
+pub record NoLog (words : List (List ℕ)) : Type 0 where
+  pub checking : (plant log : List ℕ) → ¬ Says words (Checking plant log)
+  pub listing : NoListing words
+  pub estimating : (plant log state : List ℕ) (step : ℤ) (count : ℕ) → ¬ Says words (Estimating plant log state step count)
+  pub resuming : (plant log out : List ℕ) (budget : ℕ) (share : Option (ℕ × ℕ)) → ¬ Says words (Resuming plant log budget out share)
+  pub merging : (plant stem out : List ℕ) (count : ℕ) → ¬ Says words (Merging plant stem count out)
 
 -- the words say no request that tries one horizon after another
 pub record NoHorizons (words : List (List ℕ)) : Type 0 where
@@ -244,6 +280,7 @@ meaning (variants.Demo seed) = Showing seed
 meaning (variants.Replan plant plan period budget) = Replanning plant.now plan.now period.number budget.boxes
 meaning (variants.LogReplan plant plan period budget log) = ReplanLogging plant.now plan.now period.number budget.boxes log.now
 meaning (variants.CheckReplan plant plan period log) = CheckingReplan plant.now plan.now period.number log.now
+meaning (variants.Roll plant plan period rest) = Rolling plant.now plan.now period.number rest
 meaning (variants.Improve plant plan budget log) = Improving plant.now plan.now budget.boxes (named_log log)
 meaning (variants.Estimate plant log state steps) = Estimating plant.now log.now state.now steps.step steps.count
 meaning (variants.Least plant budget) = Seeking plant.now budget.boxes

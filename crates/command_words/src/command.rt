@@ -1,23 +1,20 @@
 //! The words of a command.
-ghost use Rattle.std.specs.Prelude.{◌≡◌, ◌≢◌, ◌↔◌, ◌<◌, ◌∷◌, [], true, ℕ, ℤ, List, MatchOption};
+ghost use Rattle.std.specs.Prelude.{◌≡◌, ◌≢◌, ◌↔◌, ◌<◌, true, ℕ, List, MatchOption};
 ghost use Rattle.proof_log.specs.LogNames.{log_name};
-ghost use Rattle.command_words.specs.Words.{Says, HasNoForm, IsBudget, IsPeriod, IsSeed, IsStep, IsStepCount, Solving, Logging, Simulating, Checking, Upgrading, Showing, Replanning, ReplanLogging, CheckingReplan, Estimating, texts, meaning, Seeking, Tracing, Auditing, NoHorizons, IsHorizon, IsNoLog, use_word, last_words};
+ghost use Rattle.command_words.specs.Words.{Says, HasNoForm, IsBudget, IsSeed, Solving, Logging, Upgrading, Showing, texts, meaning, Seeking, Tracing, Auditing, NoHorizons, NoPlant, IsHorizon, IsNoLog};
 
 use crate::budget::{Budget, MAX_BUDGET};
 use crate::conflict_words::conflict_form;
-use crate::improve_words::improve_form;
 use crate::levels::{Levels, Part};
-use crate::listing_words::listing_form;
 use crate::log_count::LogCount;
-use crate::merge_words::merge_of;
+use crate::log_words::log_form;
 use crate::part_words::part_form;
 use crate::period::Period;
-use crate::resume_words::resume_form;
+use crate::plan_words::plan_form;
+use crate::replan_words::replan_form;
 use crate::share::Share;
-use crate::steps::{MAX_STEP, MAX_STEPS, Steps};
-use crate::table_words::table_of;
+use crate::steps::Steps;
 use plan_tables::TableKind;
-use stn_model::limits::MAX_PERIODS;
 use text_words::read_number;
 
 /// What is done with a plan.
@@ -70,7 +67,7 @@ pub enum Command<'a> {
     Slots {
         plant: &'a str,
     },
-    /// `upgrade PLANT`: print the plant as a file of version 2.
+    /// `upgrade PLANT`: print the plant as a file of version 3 where it is of version 3, else of version 2.
     Upgrade {
         plant: &'a str,
     },
@@ -99,6 +96,14 @@ pub enum Command<'a> {
         plan: &'a str,
         period: Period,
         log: &'a str,
+    },
+    /// `roll PLANT PLAN PERIOD`: print the plant from a period on, where the starts of a plan before it have been carried out; and the same
+    /// with `plan`: print the rest of the plan.
+    Roll {
+        plant: &'a str,
+        plan: &'a str,
+        period: Period,
+        rest: bool,
     },
     /// `improve PLANT PLAN BUDGET` and the same with LOG: plan, beginning with a plan at hand, and write the log of the proof where it
     /// is named.
@@ -190,58 +195,16 @@ pub fn command_of<'a>(words: &[&'a str]) -> Option<Command<'a>>
     ensures { MatchOption result (HasNoForm (texts words.now))
         (λ command. Says (texts words.now) (meaning command)) }
 {
-    if let Some(command) = solve_of(words) {
+    if let Some(command) = plant_form(words) {
         return Some(command);
     }
-    if let Some(command) = log_of(words) {
+    if let Some(command) = plan_form(words) {
         return Some(command);
     }
-    if let Some(command) = table_of(words) {
+    if let Some(command) = replan_form(words) {
         return Some(command);
     }
-    if let Some(command) = simulate_of(words, "simulate", PlanUse::Simulate) {
-        return Some(command);
-    }
-    if let Some(command) = simulate_of(words, "report", PlanUse::Report) {
-        return Some(command);
-    }
-    if let Some(command) = simulate_of(words, "picture", PlanUse::Picture) {
-        return Some(command);
-    }
-    if let Some(command) = simulate_of(words, "violations", PlanUse::Violations) {
-        return Some(command);
-    }
-    if let Some(command) = check_of(words) {
-        return Some(command);
-    }
-    if let Some(command) = listing_form(words) {
-        return Some(command);
-    }
-    if let Some(command) = upgrade_of(words) {
-        return Some(command);
-    }
-    if let Some(command) = replan_of(words) {
-        return Some(command);
-    }
-    if let Some(command) = log_replan_of(words) {
-        return Some(command);
-    }
-    if let Some(command) = check_replan_of(words) {
-        return Some(command);
-    }
-    if let Some(command) = improve_form(words) {
-        return Some(command);
-    }
-    if let Some(command) = resume_form(words) {
-        return Some(command);
-    }
-    if let Some(command) = merge_of(words) {
-        return Some(command);
-    }
-    if let Some(command) = estimate_of(words) {
-        return Some(command);
-    }
-    if let Some(command) = demo_of(words) {
+    if let Some(command) = log_form(words) {
         return Some(command);
     }
     if let Some(command) = horizon_form(words) {
@@ -251,6 +214,23 @@ pub fn command_of<'a>(words: &[&'a str]) -> Option<Command<'a>>
         return Some(command);
     }
     part_form(words)
+}
+
+// The command that plans or prints a plant alone, or the demonstration.
+fn plant_form<'a>(words: &[&'a str]) -> Option<Command<'a>>
+    ensures { MatchOption result (NoPlant (texts words.now))
+        (λ command. Says (texts words.now) (meaning command)) }
+{
+    if let Some(command) = solve_of(words) {
+        return Some(command);
+    }
+    if let Some(command) = log_of(words) {
+        return Some(command);
+    }
+    if let Some(command) = upgrade_of(words) {
+        return Some(command);
+    }
+    demo_of(words)
 }
 
 // The command that tries one horizon after another.
@@ -307,35 +287,6 @@ pub fn differ(first: &str, second: &str) -> bool
     first != second
 }
 
-/// The command on a plan whose first word is this use's, and that has no word after its files.
-pub fn simulate_of<'a>(words: &[&'a str], word: &str, usage: PlanUse) -> Option<Command<'a>>
-    requires first { word.now ≡ use_word usage }
-    requires last { last_words usage ≡ [] }
-    ensures { MatchOption result ((plant plan : List ℕ)
-        → ¬ Says (texts words.now) (Simulating usage plant plan))
-        (λ command. Says (texts words.now) (meaning command)) }
-{
-    match words {
-        [first, plant, plan] if *first == word && !plant.is_empty() && !plan.is_empty() => {
-            Some(Command::Simulate { usage, plant, plan })
-        }
-        _ => None,
-    }
-}
-
-fn check_of<'a>(words: &[&'a str]) -> Option<Command<'a>>
-    ensures { MatchOption result ((plant log : List ℕ)
-        → ¬ Says (texts words.now) (Checking plant log))
-        (λ command. Says (texts words.now) (meaning command)) }
-{
-    match words {
-        [first, plant, log] if *first == "check" && !plant.is_empty() && !log.is_empty() => {
-            Some(Command::Check { plant, log })
-        }
-        _ => None,
-    }
-}
-
 fn upgrade_of<'a>(words: &[&'a str]) -> Option<Command<'a>>
     ensures { MatchOption result ((plant : List ℕ) → ¬ Says (texts words.now) (Upgrading plant))
         (λ command. Says (texts words.now) (meaning command)) }
@@ -357,187 +308,6 @@ fn demo_of<'a>(words: &[&'a str]) -> Option<Command<'a>>
             Some(seed) => Some(Command::Demo { seed }),
             None => None,
         },
-        _ => None,
-    }
-}
-
-fn replan_of<'a>(words: &[&'a str]) -> Option<Command<'a>>
-    ensures { MatchOption result ((plant plan : List ℕ) (period budget : ℕ)
-        → ¬ Says (texts words.now) (Replanning plant plan period budget))
-        (λ command. Says (texts words.now) (meaning command)) }
-{
-    match words {
-        [first, plant, plan, from, most]
-            if *first == "replan" && !plant.is_empty() && !plan.is_empty() => {
-            match numbers_of(from, most) {
-                Some(Numbers { period, budget }) => Some(Command::Replan {
-                    plant,
-                    plan,
-                    period,
-                    budget,
-                }),
-                None => None,
-            }
-        }
-        _ => None,
-    }
-}
-
-fn log_replan_of<'a>(words: &[&'a str]) -> Option<Command<'a>>
-    ensures { MatchOption result ((plant plan log : List ℕ) (period budget : ℕ)
-        → ¬ Says (texts words.now) (ReplanLogging plant plan period budget log))
-        (λ command. Says (texts words.now) (meaning command)) }
-{
-    match words {
-        [first, plant, plan, from, most, log]
-            if *first == "replan"
-                && !plant.is_empty()
-                && !plan.is_empty()
-                && !log.is_empty()
-                && differ(log, plant)
-                && differ(log, plan) => {
-            match numbers_of(from, most) {
-                Some(Numbers { period, budget }) => Some(Command::LogReplan {
-                    plant,
-                    plan,
-                    period,
-                    budget,
-                    log,
-                }),
-                None => None,
-            }
-        }
-        _ => None,
-    }
-}
-
-fn check_replan_of<'a>(words: &[&'a str]) -> Option<Command<'a>>
-    ensures { MatchOption result ((plant plan log : List ℕ) (period : ℕ)
-        → ¬ Says (texts words.now) (CheckingReplan plant plan period log))
-        (λ command. Says (texts words.now) (meaning command)) }
-{
-    match words {
-        [first, plant, plan, from, log]
-            if *first == "check-replan"
-                && !plant.is_empty()
-                && !plan.is_empty()
-                && !log.is_empty() => {
-            match period_of(from) {
-                Some(period) => Some(Command::CheckReplan {
-                    plant,
-                    plan,
-                    period,
-                    log,
-                }),
-                None => None,
-            }
-        }
-        _ => None,
-    }
-}
-
-// The numbers of a replanning.
-#[derive(Clone, Copy)]
-struct Numbers {
-    period: Period,
-    budget: Budget,
-}
-
-fn numbers_of(from: &str, most: &str) -> Option<Numbers>
-    ensures { MatchOption result ((period budget : ℕ)
-        → IsPeriod from.now period → ¬ IsBudget most.now budget)
-        (λ numbers. IsPeriod from.now numbers.period.number
-        × IsBudget most.now numbers.budget.boxes) }
-{
-    match period_of(from) {
-        Some(period) => match budget_of(most) {
-            Some(budget) => Some(Numbers { period, budget }),
-            None => None,
-        },
-        None => None,
-    }
-}
-
-fn period_of(word: &str) -> Option<Period>
-    ensures { MatchOption result ((n : ℕ)
-        → ¬ IsPeriod word.now n) (λ period. IsPeriod word.now period.number) }
-{
-    match read_number(word.as_bytes(), MAX_PERIODS as u64 + 1) {
-        Some(number) => Some(Period {
-            number: number as u32,
-        }),
-        None => None,
-    }
-}
-
-fn estimate_of<'a>(words: &[&'a str]) -> Option<Command<'a>>
-    ensures { MatchOption result ((plant log state : List ℕ) (step : ℤ) (count : ℕ)
-        → ¬ Says (texts words.now) (Estimating plant log state step count))
-        (λ command. Says (texts words.now) (meaning command)) }
-{
-    match words {
-        [first, plant, log, state, step, count]
-            if *first == "whatif" && !plant.is_empty() && !log.is_empty() => {
-            match steps_of(step, count) {
-                Some(steps) => Some(Command::Estimate {
-                    plant,
-                    log,
-                    state,
-                    steps,
-                }),
-                None => None,
-            }
-        }
-        _ => None,
-    }
-}
-
-// The steps that two words say.
-fn steps_of(step: &str, count: &str) -> Option<Steps>
-    ensures { MatchOption result ((n : ℤ) (m : ℕ) → IsStep step.now n → ¬ IsStepCount count.now m)
-        (λ steps. IsStep step.now steps.step × IsStepCount count.now steps.count) }
-{
-    match (step_of(step.as_bytes()), count_of(count)) {
-        (Some(step), Some(count)) => Some(Steps { step, count }),
-        _ => None,
-    }
-}
-
-fn step_of(word: &[u8]) -> Option<i64>
-    ensures { MatchOption result ((n : ℤ) → ¬ IsStep word.now n) (λ step. IsStep word.now step) }
-{
-    match word {
-        [b'-', digits @ ..] => fall_of(digits),
-        _ => match read_number(word, MAX_STEP + 1) {
-            Some(number) => Some(number as i64),
-            None => None,
-        },
-    }
-}
-
-// The step that a minus and the digits are.
-fn fall_of(digits: &[u8]) -> Option<i64>
-    ensures { MatchOption result ((n : ℤ) → ¬ IsStep (45 ∷ digits.now) n)
-        (λ step. IsStep (45 ∷ digits.now) step) }
-{
-    match read_number(digits, MAX_STEP + 1) {
-        Some(number) => {
-            if number == 0 {
-                None
-            } else {
-                Some(-(number as i64))
-            }
-        }
-        None => None,
-    }
-}
-
-fn count_of(word: &str) -> Option<u32>
-    ensures { MatchOption result ((n : ℕ) → ¬ IsStepCount word.now n)
-        (λ count. IsStepCount word.now count) }
-{
-    match read_number(word.as_bytes(), MAX_STEPS as u64 + 1) {
-        Some(number) if 0 < number => Some(number as u32),
         _ => None,
     }
 }

@@ -4,7 +4,8 @@ ghost use Rattle.plan_tables.specs.declared.kind.TableKind.{TableKind as Kind};
 ghost use Rattle.command_words.specs.Words.{Says, Simulating, kind_words, texts, meaning};
 ghost use Rattle.command_words.specs.declared.command.PlanUse.TheVariants.{Table};
 
-use crate::command::{Command, PlanUse, simulate_of};
+use crate::command::{Command, PlanUse};
+use crate::plan_words::simulate_of;
 use plan_tables::TableKind;
 
 /// The command that prints a table of a plan, with or without a word that names it.

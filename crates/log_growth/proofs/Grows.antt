@@ -23,7 +23,7 @@ use Rattle.log_growth.specs.Growth.{BeginsWithTree, GoesOn, IsGrowth, count_if, 
 use Rattle.log_nodes.specs.OpenEnds.{in_share, is_open, leaves_open}
 use Rattle.log_growth.specs.laws.Grown.{HasGrown, HasGrownBelow, HasGrownParts}
 use Rattle.log_nodes.proofs.Skipped.{counted-tree}
-use Rattle.log_nodes.specs.laws.Nodes.{Below, HasBelow, HasParts, HasTree, IsLeafEnd, below_items, counted_leaf, counted_with, leaf_of, node_items, tree_with}
+use Rattle.log_nodes.specs.laws.Nodes.{Below, HasBelow, HasTree, IsLeafEnd, below_items, counted_leaf, counted_with, leaf_of, node_items, tree_with}
 use Rattle.log_nodes.proofs.Readings.{tree-items}
 
 -- ---- ends that split nothing

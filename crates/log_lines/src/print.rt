@@ -1,7 +1,7 @@
 //! A line as its bytes.
 ghost use Rattle.std.specs.Prelude.{◌≡◌, ◌++◌, ◌∷◌, [], decimal, flat_map, map, pos, OnOk, OnErr};
 ghost use Rattle.std.specs.Fmt.{signed_decimal};
-ghost use Rattle.log_lines.specs.declared.line.Line.TheVariants.{ClaimBelow, Floor};
+ghost use Rattle.log_lines.specs.declared.line.Line.TheVariants.{ClaimBelow, ClaimBetween, ClaimOptimal, Floor, Split};
 ghost use Rattle.log_lines.specs.Line.{line_text, number_text};
 
 use crate::line::Line;
@@ -41,21 +41,11 @@ fn put_text(alloc: Global, line: &Line, text: &mut Vec<u8>) -> Result<(), AllocE
             max,
             scale,
             count,
-        } => put(
-            alloc,
-            b"split",
-            &[],
-            &[slot, u128::from(max), scale, count],
-            text,
-        ),
+        } => put_split(alloc, slot, max, scale, count, text),
         Line::Mult { row, factor } => put(alloc, b"mult", &[], &[row, factor], text),
-        Line::ClaimOptimal { profit, count } => {
-            put(alloc, b"claim optimal", &[profit], &[count], text)
-        }
+        Line::ClaimOptimal { profit, count } => put_optimal(alloc, &profit, count, text),
         Line::ClaimInfeasible => put(alloc, b"claim infeasible", &[], &[], text),
-        Line::ClaimBetween { profit, cap, count } => {
-            put(alloc, b"claim between", &[profit, cap], &[count], text)
-        }
+        Line::ClaimBetween { profit, cap, count } => put_between(alloc, &profit, &cap, count, text),
         Line::ClaimBelow { cap } => put_below(alloc, &cap, text),
         Line::End => put(alloc, b"end", &[], &[], text),
     }
@@ -67,6 +57,52 @@ fn put_floor(alloc: Global, profit: &i128, text: &mut Vec<u8>) -> Result<(), All
     ensures { OnOk result (text.new.items ≡ text.old.items ++ line_text (Floor profit.now)) }
 {
     put(alloc, b"floor", &[*profit], &[], text)
+}
+
+// Appends a split.
+#[tactic(auto, unfolding(crate::specs::Line::line_text))]
+fn put_split(
+    alloc: Global,
+    slot: u128,
+    max: u8,
+    scale: u128,
+    count: u128,
+    text: &mut Vec<u8>,
+) -> Result<(), AllocError>
+    ensures { OnOk result (text.new.items
+        ≡ text.old.items ++ line_text (Split slot max scale count)) }
+{
+    let numbers = [slot, u128::from(max), scale, count];
+    put(alloc, b"split", &[], &numbers, text)
+}
+
+// Appends the claim of a best plan.
+#[tactic(auto, unfolding(crate::specs::Line::line_text))]
+fn put_optimal(
+    alloc: Global,
+    profit: &i128,
+    count: u128,
+    text: &mut Vec<u8>,
+) -> Result<(), AllocError>
+    ensures { OnOk result (text.new.items
+        ≡ text.old.items ++ line_text (ClaimOptimal profit.now count)) }
+{
+    put(alloc, b"claim optimal", &[*profit], &[count], text)
+}
+
+// Appends the claim of a plan and a cap.
+#[tactic(auto, unfolding(crate::specs::Line::line_text))]
+fn put_between(
+    alloc: Global,
+    profit: &i128,
+    cap: &i128,
+    count: u128,
+    text: &mut Vec<u8>,
+) -> Result<(), AllocError>
+    ensures { OnOk result (text.new.items
+        ≡ text.old.items ++ line_text (ClaimBetween profit.now cap.now count)) }
+{
+    put(alloc, b"claim between", &[*profit, *cap], &[count], text)
 }
 
 // Appends the claim of a cap alone.

@@ -11,7 +11,7 @@ use Rattle.row_relax.specs.RowProofs.{RowItem}
 use Rattle.log_nodes.specs.declared.node.Node.{Node}
 use Rattle.log_nodes.specs.declared.node.Ending.{Ending}
 use Rattle.log_nodes.specs.declared.node.Ending.TheVariants.{Empty, Dual, Point, Pending, Split}
-use Rattle.log_nodes.specs.laws.Nodes.{Below, HasBelow, HasParts, HasTree, IsLeafEnd, below_items, counted_leaf, counted_with, leaf_of, node_items, tree_with}
+use Rattle.log_nodes.specs.laws.Nodes.{Below, HasBelow, HasTree, IsLeafEnd, below_items, counted_leaf, counted_with, leaf_of, node_items, tree_with}
 use Rattle.log_nodes.proofs.Readings.{tree-items}
 
 -- a tree counts as its end and what stands below it
@@ -30,18 +30,13 @@ tree-read reads all node boxes behind has = record {
   counts = has.counts ∙ sym (counted-tree node.cuts node.found node.end has.below);
 }
 
--- both parts of a split were read
-pub parts-read : (one two both : List RowItem → Type 0) (first second boxes : ℕ) → ((a b : List RowItem) → one a → two b → both (a ++ b)) → boxes ≡ 1 + first + second → HasTree one first → HasTree two second → HasParts both boxes
-parts-read one two both first second boxes behind are a b = record {
-  first = a.tree;
-  second = b.tree;
+-- both parts of a split were read: all that stands below it
+pub parts-below : (one two both : List RowItem → Type 0) (pick : RowPick) (cert : Cert) (first second boxes : ℕ) → ((a b : List RowItem) → one a → two b → both (a ++ b)) → boxes ≡ 1 + first + second → HasTree one first → HasTree two second → HasBelow both (Split pick cert) boxes
+parts-below one two both pick cert first second boxes behind are a b = record {
+  below = (a.tree, b.tree);
   read = behind (tree_items a.tree) (tree_items b.tree) a.read b.read;
   counts = omega (arith, are, a.counts, b.counts);
 }
-
--- what stands below a split are its parts
-pub parts-below : (reads : List RowItem → Type 0) (pick : RowPick) (cert : Cert) (boxes : ℕ) → HasParts reads boxes → HasBelow reads (Split pick cert) boxes
-parts-below reads pick cert boxes has = record { below = (has.first, has.second); read = has.read; counts = has.counts }
 
 -- what stands below an end that splits nothing
 pub below-none : (reads : List RowItem → Type 0) (end : Ending) (boxes : ℕ) → IsLeafEnd end → reads [] → boxes ≡ counted_leaf (leaf_of end) → HasBelow reads end boxes
@@ -51,7 +46,7 @@ below-none reads Point boxes is none counts = record { below = tt; read = none; 
 below-none reads (Pending cert) boxes is none counts = record { below = tt; read = none; counts = counts }
 below-none reads (Split pick cert) boxes is none counts = absurd is
 
--- both parts of a split were read, where the sum of their counts is a number of 64 bits
-pub parts-if : (one two both : List RowItem → Type 0) (first second : ℕ) (boxes : Option ℕ) → ((a b : List RowItem) → one a → two b → both (a ++ b)) → IfSome boxes (λ n. n ≡ 1 + first + second) → HasTree one first → HasTree two second → IfSome boxes (HasParts both)
-parts-if one two both first second None behind are a b = tt
-parts-if one two both first second (Some boxes) behind are a b = parts-read one two both first second boxes behind are a b
+-- the same, where the sum of their counts is a number of 64 bits
+pub parts-if : (one two both : List RowItem → Type 0) (pick : RowPick) (cert : Cert) (first second : ℕ) (boxes : Option ℕ) → ((a b : List RowItem) → one a → two b → both (a ++ b)) → IfSome boxes (λ n. n ≡ 1 + first + second) → HasTree one first → HasTree two second → IfSome boxes (HasBelow both (Split pick cert))
+parts-if one two both pick cert first second None behind are a b = tt
+parts-if one two both pick cert first second (Some boxes) behind are a b = parts-below one two both pick cert first second boxes behind are a b

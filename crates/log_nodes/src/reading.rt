@@ -2,6 +2,7 @@
 ghost use Rattle.std.specs.Prelude.{◌≡◌, ◌≤◌, [], ◌∷◌, ◌++◌, map, Err, IsTrue, IfOk, IfSome};
 ghost use Rattle.stn_edge.specs.Count.{Rose};
 ghost use Rattle.proof_tree.specs.declared.item.Item.TheVariants.{Cut as CutItem};
+ghost use Rattle.store_frames.specs.Frames.{OnlyReads};
 ghost use Rattle.log_nodes.specs.Reading.{IsReading, ReadsOn};
 ghost use Rattle.log_nodes.specs.laws.Nodes.{item_of, node_items};
 
@@ -26,11 +27,7 @@ fn next_item<F: Shelf>(
         ReadsOn (F.files files.old) name.now reader.old (item ∷ []) reader.new)) }
     ensures reading { IfOk result (λ next. IfSome next (λ _.
         IsReading (F.files files.old) name.now reader.new)) }
-    ensures same { F.files files.new ≡ F.files files.old }
-    ensures readable { F.may_read files.new ≡ F.may_read files.old }
-    ensures writable { F.may_write files.new ≡ F.may_write files.old }
-    ensures later { F.read_faults files.old ≤ F.read_faults files.new }
-    ensures no_write { F.write_faults files.new ≡ F.write_faults files.old }
+    ensures frame { OnlyReads F.Shelf files.old files.new }
     ensures fault { result ≡ Err Stop.Failed
         → Rose (F.read_faults files.old) (F.read_faults files.new) }
 {
@@ -60,11 +57,7 @@ fn read_cuts<F: Shelf>(
         reader.old (map CutItem f.cuts ++ f.next ∷ []) reader.new)) }
     ensures reading { IfOk result (λ front. IfSome front (λ _.
         IsReading (F.files files.old) name.now reader.new)) }
-    ensures same { F.files files.new ≡ F.files files.old }
-    ensures readable { F.may_read files.new ≡ F.may_read files.old }
-    ensures writable { F.may_write files.new ≡ F.may_write files.old }
-    ensures later { F.read_faults files.old ≤ F.read_faults files.new }
-    ensures no_write { F.write_faults files.new ≡ F.write_faults files.old }
+    ensures frame { OnlyReads F.Shelf files.old files.new }
     ensures fault { result ≡ Err Stop.Failed
         → Rose (F.read_faults files.old) (F.read_faults files.new) }
 {

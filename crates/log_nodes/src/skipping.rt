@@ -1,8 +1,9 @@
 //! Reading a whole proof for its count of boxes.
 ghost use Rattle.std.specs.Prelude.{◌≡◌, ◌≤◌, ◌+◌, Err, IsTrue, IfOk, IfSome};
 ghost use Rattle.stn_edge.specs.Count.{Rose};
+ghost use Rattle.store_frames.specs.Frames.{OnlyReads};
 ghost use Rattle.log_nodes.specs.Reading.{IsReading, ReadsOn};
-ghost use Rattle.log_nodes.specs.laws.Nodes.{HasBelow, HasParts, HasTree};
+ghost use Rattle.log_nodes.specs.laws.Nodes.{HasBelow, HasTree};
 
 use crate::node::Ending;
 use crate::reading::read_node;
@@ -61,39 +62,15 @@ pub fn skip_below<F: Shelf>(
         Ending::Dual(_) => Ok(Some(1)),
         Ending::Point => Ok(Some(1)),
         Ending::Pending(_) => Ok(Some(0)),
-        Ending::Split(_, _) => skip_parts(alloc, files, name, reader, most),
-    }
-}
-
-// Reads both parts of a split, and counts their boxes with that of the split.
-#[cycle(skipping)]
-fn skip_parts<F: Shelf>(
-    alloc: Global,
-    files: &mut F,
-    name: &str,
-    reader: &mut LogReader,
-    most: u32,
-) -> Result<Option<u64>, Stop>
-    requires allowed { IsTrue (F.may_read files.old name.now) }
-    requires reading { IsReading (F.files files.old) name.now reader.old }
-    ensures parts { IfOk result (λ count. IfSome count (HasParts
-        (λ items. ReadsOn (F.files files.old) name.now reader.old items reader.new))) }
-    ensures reading { IfOk result (λ count. IfSome count (λ _.
-        IsReading (F.files files.old) name.now reader.new)) }
-    ensures same { F.files files.new ≡ F.files files.old }
-    ensures readable { F.may_read files.new ≡ F.may_read files.old }
-    ensures writable { F.may_write files.new ≡ F.may_write files.old }
-    ensures later { F.read_faults files.old ≤ F.read_faults files.new }
-    ensures no_write { F.write_faults files.new ≡ F.write_faults files.old }
-    ensures fault { result ≡ Err Stop.Failed
-        → Rose (F.read_faults files.old) (F.read_faults files.new) }
-{
-    let Some(first) = skip_tree(alloc, files, name, reader, most)? else {
-        return Ok(None);
-    };
-    match skip_tree(alloc, files, name, reader, most)? {
-        Some(second) => Ok(with_both(first, second)),
-        None => Ok(None),
+        Ending::Split(_, _) => {
+            let Some(first) = skip_tree(alloc, files, name, reader, most)? else {
+                return Ok(None);
+            };
+            match skip_tree(alloc, files, name, reader, most)? {
+                Some(second) => Ok(with_both(first, second)),
+                None => Ok(None),
+            }
+        }
     }
 }
 
@@ -112,11 +89,7 @@ fn skip_tree<F: Shelf>(
         (λ items. ReadsOn (F.files files.old) name.now reader.old items reader.new))) }
     ensures reading { IfOk result (λ count. IfSome count (λ _.
         IsReading (F.files files.old) name.now reader.new)) }
-    ensures same { F.files files.new ≡ F.files files.old }
-    ensures readable { F.may_read files.new ≡ F.may_read files.old }
-    ensures writable { F.may_write files.new ≡ F.may_write files.old }
-    ensures later { F.read_faults files.old ≤ F.read_faults files.new }
-    ensures no_write { F.write_faults files.new ≡ F.write_faults files.old }
+    ensures frame { OnlyReads F.Shelf files.old files.new }
     ensures fault { result ≡ Err Stop.Failed
         → Rose (F.read_faults files.old) (F.read_faults files.new) }
 {

@@ -69,10 +69,10 @@ fn open_over<F: Shelf>(
     requires part { IsPartOf plant.now program }
     requires ranges { AreRanges program judged.now }
     requires allowed { IsTrue (F.may_read files.old name.now) }
-    ensures opened { IfOk result (λ opened. IfSome opened (λ o. IfSome (F.files files.old)
-        (λ m. IsOpenedOver plant.now program judged.now (file_of m name.now) o))) }
     ensures lines { IfOk result (λ opened. IfSome opened
         (λ o. o.head.lines ≡ lines_on o.head.declared)) }
+    ensures opened { IfOk result (λ opened. IfSome opened (λ o. IfSome (F.files files.old)
+        (λ m. IsOpenedOver plant.now program judged.now (file_of m name.now) o))) }
     ensures frame { OnlyReads F.Shelf files.old files.new }
     ensures fault { result ≡ Err CheckStop.Fault
         → Rose (F.read_faults files.old) (F.read_faults files.new) }
@@ -103,13 +103,13 @@ fn open_headed<F: Shelf>(
 ) -> Result<Option<Opened>, CheckStop>
     requires sound { Sound plant.now }
     requires part { IsPartOf plant.now program }
-    requires ranges { AreRanges program judged.now }
     requires kept { IsKeptHead (limits_with program (depth_limit plant.now) 0) head }
+    requires ranges { AreRanges program judged.now }
     requires allowed { IsTrue (F.may_read files.old name.now) }
-    ensures opened { IfOk result (λ opened. IfSome opened (λ o. IfSome (F.files files.old)
-        (λ m. IsOpenedHead plant.now program judged.now (file_of m name.now) head o))) }
     ensures lines { IfOk result (λ opened. IfSome opened
         (λ o. o.head.lines ≡ lines_on o.head.declared)) }
+    ensures opened { IfOk result (λ opened. IfSome opened (λ o. IfSome (F.files files.old)
+        (λ m. IsOpenedHead plant.now program judged.now (file_of m name.now) head o))) }
     ensures frame { OnlyReads F.Shelf files.old files.new }
     ensures fault { result ≡ Err CheckStop.Fault
         → Rose (F.read_faults files.old) (F.read_faults files.new) }
@@ -133,16 +133,16 @@ fn open_set_up<F: Shelf>(
     files: &mut F,
     name: &str,
 ) -> Result<Option<Opened>, CheckStop>
+    requires held { IsHeadHeld plant.now program (depth_limit plant.now) setups }
     requires sound { Sound plant.now }
     requires part { IsPartOf plant.now program }
     requires ranges { AreRanges program judged.now }
-    requires held { IsHeadHeld plant.now program (depth_limit plant.now) setups }
     requires counted { IsCounted setups }
     requires allowed { IsTrue (F.may_read files.old name.now) }
-    ensures opened { IfOk result (λ opened. IfSome opened (λ o. IfSome (F.files files.old)
-        (λ m. IsOpenedSetUp plant.now program judged.now (file_of m name.now) setups o))) }
     ensures lines { IfOk result (λ opened. IfSome opened
         (λ o. o.head.lines ≡ lines_on o.head.declared)) }
+    ensures opened { IfOk result (λ opened. IfSome opened (λ o. IfSome (F.files files.old)
+        (λ m. IsOpenedSetUp plant.now program judged.now (file_of m name.now) setups o))) }
     ensures frame { OnlyReads F.Shelf files.old files.new }
     ensures fault { result ≡ Err CheckStop.Fault
         → Rose (F.read_faults files.old) (F.read_faults files.new) }
@@ -162,12 +162,12 @@ fn open_tailed(
     setups: Setups,
     tail: Tail,
 ) -> Result<Option<Opened>, CheckStop>
+    requires tailed { IsTailHeld setups.limits setups.head tail }
     requires sound { Sound plant.now }
     requires part { IsPartOf plant.now program }
     requires ranges { AreRanges program judged.now }
     requires held { IsHeadHeld plant.now program (depth_limit plant.now) setups }
     requires counted { IsCounted setups }
-    requires tailed { IsTailHeld setups.limits setups.head tail }
     ensures over { IfOk result (λ opened. IfSome opened (λ o.
         IsWithHead plant.now setups.head.version program judged.now setups.head.sums setups.units
         tail.derivations o.rows)) }

@@ -7,7 +7,6 @@ ghost use Rattle.stn_model.specs.Sound.{Sound};
 ghost use Rattle.log_nodes.specs.declared.pair.Share.{Share};
 ghost use Rattle.valid_log.specs.declared.verdict.LogVerdict.TheVariants.{Yes};
 ghost use Rattle.valid_log.specs.PlantLogs.{IsAnyChecked};
-ghost use Rattle.log_resuming.specs.Opened.{IsOpened};
 ghost use Rattle.log_resuming.specs.Resumed.{IsResumingIn, LeavesResumed, ResumedSays};
 
 use crate::judging::{Judged, front_of, judge};
@@ -82,59 +81,29 @@ fn go_on<A: EndAdvisers, F: Shelf>(
     going: Going,
     claim: &Claim,
 ) -> Result<Resumed, JoinStop>
+    requires valid { IfSome (F.files files.old)
+        (λ m. IsAnyChecked plant.now (file_of m going.log.now) (Yes claim.now)) }
     requires sound { Sound plant.now }
     requires log_readable { IsTrue (F.may_read files.old going.log.now) }
     requires out_readable { IsTrue (F.may_read files.old going.out.now) }
     requires out_writable { IsTrue (F.may_write files.old going.out.now) }
     requires apart { going.out.now ≢ going.log.now }
-    requires valid { IfSome (F.files files.old)
-        (λ m. IsAnyChecked plant.now (file_of m going.log.now) (Yes claim.now)) }
+    ensures says { IfOk result (ResumedSays plant.now) }
     ensures resumed { IfOk result (IsResumingIn plant.now going.entry.budget going.entry.share
         going.entry.log.now going.entry.out.now (F.files files.old) (F.files files.new)) }
-    ensures says { IfOk result (ResumedSays plant.now) }
     ensures frame { ReadsAndWritesOne F.Shelf going.entry.out.now files.old files.new }
     ensures read_fault { result ≡ Err JoinStop.ReadFault
         → Rose (F.read_faults files.old) (F.read_faults files.new) }
     ensures write_fault { result ≡ Err JoinStop.WriteFault
         → Rose (F.write_faults files.old) (F.write_faults files.new) }
 {
-    match open_log(alloc, plant, files, going.log)? {
-        Some(opened) => go_on_opened::<A, _>(alloc, plant, files, going, &opened, claim),
-        None => look_again(alloc, plant, files, going),
-    }
-}
-
-// Goes on from a log that is valid with this claim and is opened.
-fn go_on_opened<A: EndAdvisers, F: Shelf>(
-    alloc: Global,
-    plant: &Plant,
-    files: &mut F,
-    going: Going,
-    opened: &Opened,
-    claim: &Claim,
-) -> Result<Resumed, JoinStop>
-    requires sound { Sound plant.now }
-    requires log_readable { IsTrue (F.may_read files.old going.log.now) }
-    requires out_readable { IsTrue (F.may_read files.old going.out.now) }
-    requires out_writable { IsTrue (F.may_write files.old going.out.now) }
-    requires apart { going.out.now ≢ going.log.now }
-    requires valid { IfSome (F.files files.old)
-        (λ m. IsAnyChecked plant.now (file_of m going.log.now) (Yes claim.now)) }
-    requires opened { IfSome (F.files files.old)
-        (λ m. IsOpened plant.now (file_of m going.log.now) opened.now) }
-    ensures resumed { IfOk result (IsResumingIn plant.now going.entry.budget going.entry.share
-        going.entry.log.now going.entry.out.now (F.files files.old) (F.files files.new)) }
-    ensures says { IfOk result (ResumedSays plant.now) }
-    ensures frame { ReadsAndWritesOne F.Shelf going.entry.out.now files.old files.new }
-    ensures read_fault { result ≡ Err JoinStop.ReadFault
-        → Rose (F.read_faults files.old) (F.read_faults files.new) }
-    ensures write_fault { result ≡ Err JoinStop.WriteFault
-        → Rose (F.write_faults files.old) (F.write_faults files.new) }
-{
-    if !write_out::<A, _>(alloc, plant, files, going, opened, claim)? {
+    let Some(opened) = open_log(alloc, plant, files, going.log)? else {
+        return look_again(alloc, plant, files, going);
+    };
+    if !write_out::<A, _>(alloc, plant, files, going, &opened, claim)? {
         return look_again(alloc, plant, files, going);
     }
-    match judge(alloc, plant, files, going, opened, claim)? {
+    match judge(alloc, plant, files, going, &opened, claim)? {
         Some(Judged { claim, boxes }) => Ok(Resumed::Done { claim, boxes }),
         None => Err(JoinStop::Memory),
     }
@@ -147,8 +116,8 @@ fn look_again<F: Shelf>(
     files: &mut F,
     going: Going,
 ) -> Result<Resumed, JoinStop>
-    requires sound { Sound plant.now }
     requires log_readable { IsTrue (F.may_read files.old going.log.now) }
+    requires sound { Sound plant.now }
     ensures resumed { (budget : ℕ) (share : Option Share) → IfOk result
         (IsResumingIn plant.now budget share going.entry.log.now going.entry.out.now
         (F.files files.old) (F.files files.new)) }

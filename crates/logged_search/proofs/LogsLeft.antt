@@ -1,11 +1,13 @@
 -- What the steps of writing a log leave of the files.
-use Rattle.std.proofs.Common.{◌≡◌, ◌≢◌, ℕ, Bool, true, false, List, [], ◌∷◌, ◌++◌, flat_map, string_bytes, Option, None, Some, IfSome, refl, sym, ap, ◌∙◌, subst, inl, inr}
-use Rattle.std.specs.Prelude.{◌⊎◌}
+use Rattle.std.proofs.Common.{◌≡◌, ◌≢◌, ℕ, Bool, true, false, List, [], ◌∷◌, ◌++◌, flat_map, string_bytes, Option, None, Some, IfSome, refl, sym, ap, ◌∙◌, subst, inl, inr, arith}
+use Rattle.std.specs.Prelude.{◌⊎◌, ◌≤◌}
 use Rattle.std.specs.Option.{option_map}
 use Rattle.std.specs.FinMap.{get}
 use Rattle.std.proofs.lemmas.List.{append-nil}
 use Rattle.stn_edge.specs.Files.{FileMap, MayClear, OthersStay, cleared, file_of}
+use Rattle.stn_edge.specs.declared.shelf.Shelf.{Ghosts}
 use Rattle.stn_edge.proofs.FileLemmas.{get-cleared_other}
+use Rattle.store_frames.specs.Frames.{WritesOne}
 use Rattle.stn_model.specs.declared.plant.Plant.{Plant}
 use Rattle.stn_model.specs.Points.{depth_limit}
 use Rattle.row_kit.specs.declared.domain.Domain.{Domain}
@@ -36,12 +38,22 @@ others_cleared name other None apart = refl
 others_cleared name other (Some files) apart = ap Some (get-cleared_other name files other apart)
 
 -- to clear a file leaves the others as they are
-pub others-clear : (name : List ℕ) (old new : Option FileMap) → new ≡ option_map (cleared name) old → OthersStay name old new
-others-clear name old new is other apart = ap (option_map (λ (m : FileMap). get m other)) is ∙ others_cleared name other old apart
+others_clear : (name : List ℕ) (old new : Option FileMap) → new ≡ option_map (cleared name) old → OthersStay name old new
+others_clear name old new is other apart = ap (option_map (λ (m : FileMap). get m other)) is ∙ others_cleared name other old apart
 
-pub others-may_clear : (name : List ℕ) (old new : Option FileMap) → MayClear name old new → OthersStay name old new
-others-may_clear name old new (inl same) other apart = ap (option_map (λ (m : FileMap). get m other)) same
-others-may_clear name old new (inr is) other apart = others-clear name old new is other apart
+others_may_clear : (name : List ℕ) (old new : Option FileMap) → MayClear name old new → OthersStay name old new
+others_may_clear name old new (inl same) other apart = ap (option_map (λ (m : FileMap). get m other)) same
+others_may_clear name old new (inr is) other apart = others_clear name old new is other apart
+
+module _ {F : Type 0} (S : Ghosts F) (name : List ℕ) (old new : F) (readable : S.may_read new ≡ S.may_read old) (writable : S.may_write new ≡ S.may_write old) (no_read : S.read_faults new ≡ S.read_faults old)
+    (writes : S.write_faults old ≤ S.write_faults new) where
+  -- what a call leaves of a store that cleared a file
+  pub writes-cleared : S.files new ≡ option_map (cleared name) (S.files old) → WritesOne S name old new
+  writes-cleared is = record { others = others_clear name (S.files old) (S.files new) is; readable = readable; writable = writable; no_read = no_read; writes = writes }
+
+  -- or that may have done so
+  pub writes-may_clear : MayClear name (S.files old) (S.files new) → WritesOne S name old new
+  writes-may_clear may = record { others = others_may_clear name (S.files old) (S.files new) may; readable = readable; writable = writable; no_read = no_read; writes = writes }
 
 -- a log that was begun is begun after an attempt that did not end
 pub left-then : (most : ℕ) (rows : Rows) (floors : Bool) (head name : List ℕ) (mid new : Option FileMap) → IfSome (bytes_in name mid) (IsBegun most rows floors head) → LeavesBegun most rows floors head name mid new → IfSome (bytes_in name new) (IsBegun most rows floors head)
@@ -66,35 +78,42 @@ pub handed-keeps : (old new : Writing) (text : List ℕ) → Took old new text �
 handed-keeps old new text (inl took) = took.keeps
 handed-keeps old new text (inr broke) = broke.keeps
 
--- what a log is begun in and what takes its items leave of a store
-pub kept-handed : {S : Type 0} (files : S → Option FileMap) (reads : S → ℕ) (may_read may_write : S → List ℕ → Bool) (name : List ℕ) (writer writer_after : LogWriter) (before store store_after : S)
-    → string_bytes writer.name ≡ name → OthersStay name (files before) (files store) → reads store ≡ reads before → may_read store ≡ may_read before → may_write store ≡ may_write before
-    → KeepsOthers (writing files reads may_read may_write writer store) (writing files reads may_read may_write writer_after store_after)
-    → KeepsOthers (stored files reads may_read may_write name before) (stored files reads may_read may_write name store_after)
-kept-handed files reads may_read may_write name writer writer_after before store store_after named others no_read readable writable keeps = record {
-  name = refl;
-  others = λ other apart. keeps.others other (λ is. apart (is ∙ named)) ∙ others other apart;
-  reads = keeps.reads ∙ no_read;
-  may_read = keeps.may_read ∙ readable;
-  may_write = keeps.may_write ∙ writable;
-}
-
 -- where nothing was done all stays
-pub keeps-none : (at : Writing) → KeepsOthers at at
-keeps-none at = record { name = refl; others = λ other apart. refl; reads = refl; may_read = refl; may_write = refl }
+pub writes-none : {F : Type 0} (S : Ghosts F) (name : List ℕ) (at : F) → WritesOne S name at at
+writes-none S name at = record { others = λ other apart. refl; readable = refl; writable = refl; no_read = refl; writes = omega arith }
 
--- what the steps before leave of a store, and what writes the end of a log
-pub kept-finished : {S : Type 0} (files : S → Option FileMap) (reads : S → ℕ) (may_read may_write : S → List ℕ → Bool) (name : List ℕ) (writer : LogWriter) (before store store_after : S)
-    → string_bytes writer.name ≡ name → KeepsOthers (stored files reads may_read may_write name before) (stored files reads may_read may_write name store)
-    → KeepsOthers (writing files reads may_read may_write writer store) (written files reads may_read may_write writer store_after)
-    → KeepsOthers (stored files reads may_read may_write name before) (stored files reads may_read may_write name store_after)
-kept-finished files reads may_read may_write name writer before store store_after named first keeps = record {
-  name = refl;
-  others = λ other apart. keeps.others other (λ is. apart (is ∙ named)) ∙ first.others other apart;
-  reads = keeps.reads ∙ first.reads;
-  may_read = keeps.may_read ∙ first.may_read;
-  may_write = keeps.may_write ∙ first.may_write;
+-- what two calls that write one file leave of a store
+pub writes-then : {F : Type 0} (S : Ghosts F) (name own : List ℕ) (a b c : F) → own ≡ name → WritesOne S name a b → WritesOne S own b c → WritesOne S name a c
+writes-then S name own a b c same first second = record {
+  others = λ other apart. second.others other (λ is. apart (is ∙ same)) ∙ first.others other apart;
+  readable = second.readable ∙ first.readable;
+  writable = second.writable ∙ first.writable;
+  no_read = second.no_read ∙ first.no_read;
+  writes = let one = first.writes in let two = second.writes in omega (arith, one, two);
 }
+
+-- what takes items for a log leaves of a store
+pub writes-handed : {F : Type 0} (S : Ghosts F) (writer writer_after : LogWriter) (store store_after : F)
+    → KeepsOthers (writing S.files S.read_faults S.may_read S.may_write writer store) (writing S.files S.read_faults S.may_read S.may_write writer_after store_after)
+    → S.write_faults store ≤ S.write_faults store_after → WritesOne S (string_bytes writer.name) store store_after
+writes-handed S writer writer_after store store_after keeps writes = record { others = keeps.others; readable = keeps.may_read; writable = keeps.may_write; no_read = keeps.reads; writes = writes }
+
+-- and what writes the end of a log
+pub writes-finished : {F : Type 0} (S : Ghosts F) (writer : LogWriter) (store store_after : F)
+    → KeepsOthers (writing S.files S.read_faults S.may_read S.may_write writer store) (written S.files S.read_faults S.may_read S.may_write writer store_after)
+    → S.write_faults store ≤ S.write_faults store_after → WritesOne S (string_bytes writer.name) store store_after
+writes-finished S writer store store_after keeps writes = record { others = keeps.others; readable = keeps.may_read; writable = keeps.may_write; no_read = keeps.reads; writes = writes }
+
+-- what a call that writes one file keeps, as a writer for that file finds it
+pub kept-one : {F : Type 0} (S : Ghosts F) (name : List ℕ) (old new : F) → WritesOne S name old new
+    → KeepsOthers (stored S.files S.read_faults S.may_read S.may_write name old) (stored S.files S.read_faults S.may_read S.may_write name new)
+kept-one S name old new frame = record { name = refl; others = frame.others; reads = frame.no_read; may_read = frame.readable; may_write = frame.writable }
+
+-- and the other way round
+pub writes-kept : {F : Type 0} (S : Ghosts F) (name : List ℕ) (old new : F)
+    → KeepsOthers (stored S.files S.read_faults S.may_read S.may_write name old) (stored S.files S.read_faults S.may_read S.may_write name new)
+    → S.write_faults old ≤ S.write_faults new → WritesOne S name old new
+writes-kept S name old new keeps writes = record { others = keeps.others; readable = keeps.may_read; writable = keeps.may_write; no_read = keeps.reads; writes = writes }
 
 -- all items of the proof stand behind the head in the log that lacks its claim
 pub logged-whole : {Is : RowTree → Type 0} (most : ℕ) (rows : Rows) (floors : Bool) (head name : List ℕ) (at : Writing) → (is : IsLogged Is most rows floors head name at)

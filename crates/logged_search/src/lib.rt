@@ -7,6 +7,7 @@
 mod item_dropper;
 mod logging;
 mod searching;
+mod sought;
 mod split_rules;
 
 pub use logging::{Logged, search_logged};

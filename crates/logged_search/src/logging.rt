@@ -1,17 +1,19 @@
 //! Searches whose proof is written to a log behind a head while they go on.
-ghost use Rattle.std.specs.Prelude.{◌≡◌, ◌≤◌, ◌↔◌, Bool, true, length, Err, IsTrue, IfOk, OnErr};
+ghost use Rattle.std.specs.Prelude.{◌≡◌, ◌≤◌, ◌↔◌, Bool, false, true, length, Err, IsTrue, IfOk, OnErr};
 ghost use Rattle.std.specs.List.{All};
 ghost use Rattle.stn_edge.specs.Count.{Rose};
+ghost use Rattle.store_frames.specs.Frames.{WritesOne};
 ghost use Rattle.row_kit.specs.Domain.{IsOpen};
 ghost use Rattle.row_relax.specs.Choices.{HaveImages, choices_of};
-ghost use Rattle.branch_tree.specs.Searched.{AreSearchable, IsExact, IsSearch, IsWorth};
+ghost use Rattle.branch_tree.specs.Searched.{IsWorth};
 ghost use Rattle.plan_told.specs.Ended.{IsEmptyRoot, IsEnding};
 ghost use Rattle.proof_log.specs.Writer.{KeepsOthers, writing};
 ghost use Rattle.logged_search.specs.Logging.{HasFewSplits, IsLogged, LeavesBegun, stored};
+ghost use Rattle.logged_search.specs.laws.Sought.{BeganFor, CanSearch, IsExactFor, IsLoggedFor, IsSearchFor};
 
-use crate::searching::empty_end;
+use crate::searching::{empty_end, put_search};
+use crate::sought::Sought;
 use crate::split_rules::SplitRules;
-use advised_search::{search_advised, search_hinted};
 use box_advice::Advisers;
 use branch_tree::{Ended, is_searchable};
 use log_lines::{Line, put_line};
@@ -62,13 +64,18 @@ pub fn search_logged<A: Advisers, F: Shelf>(
     if !is_searchable(&rows.program, rules.most) {
         return log_empty(alloc, rows, rules.most, head, files, name);
     }
-    let (logged, exact) = log_advised::<A, _>(
-        alloc, rows, rules, budget, start, head, files, name,
-    )?;
+    let sought = Sought {
+        rows,
+        rules,
+        budget,
+        start,
+    };
+    let (logged, exact) = log_open::<A, _>(alloc, &sought, true, head, files, name)?;
     if exact {
         return Ok(logged);
     }
-    log_hinted::<A, _>(alloc, rows, rules, budget, start, head, files, name)
+    let (again, _) = log_open::<A, _>(alloc, &sought, false, head, files, name)?;
+    Ok(again)
 }
 
 // Begins a log and writes the proof of one empty box: some slot of the root has no value.
@@ -90,10 +97,7 @@ fn log_empty<F: Shelf>(
     ensures err { (floors : Bool)
         → OnErr result (LeavesBegun most rows.now floors head.now name.now
         (F.files files.old) (F.files files.new)) }
-    ensures kept { KeepsOthers
-        (stored F.files F.read_faults F.may_read F.may_write name.now files.old)
-        (stored F.files F.read_faults F.may_read F.may_write name.now files.new) }
-    ensures later { F.write_faults files.old ≤ F.write_faults files.new }
+    ensures frame { WritesOne F.Shelf name.now files.old files.new }
     ensures failed { result ≡ Err Stop.Failed
         → Rose (F.write_faults files.old) (F.write_faults files.new) }
 {
@@ -105,106 +109,40 @@ fn log_empty<F: Shelf>(
     Ok(Logged { ended, writer })
 }
 
-// Begins a log and writes the proof of a search with both advisers. The answer also says whether its count is exact.
-fn log_advised<A: Advisers, F: Shelf>(
+// Begins a log and writes the proof of a search with both advisers, or without a guide. The answer also says whether its count is
+// exact, as it is without a guide.
+fn log_open<A: Advisers, F: Shelf>(
     alloc: Global,
-    rows: &Rows,
-    rules: SplitRules,
-    budget: u32,
-    start: &[u8],
+    sought: &Sought,
+    guided: bool,
     head: &[u8],
     files: &mut F,
     name: &str,
 ) -> Result<(Logged, bool), Stop>
-    requires searchable { AreSearchable rules.most rows.now }
-    requires budget { (1 ≤ budget) × (budget ≤ 100000) }
+    requires can { CanSearch sought.now }
     requires allowed { IsTrue (F.may_write files.old name.now) }
-    ensures logged { IfOk result (λ found.
-        IsLogged
-        (λ tree. IsSearch rules.most rows.now rules.floors rules.given budget tree found.0.ended)
-        rules.most rows.now rules.floors head.now name.now
+    ensures logged { IfOk result (λ found. IsLoggedFor sought.now
+        (IsSearchFor sought.now found.0.ended) head.now name.now
         (writing F.files F.read_faults F.may_read F.may_write found.0.writer files.new)) }
-    ensures begun { IfOk result
-        (λ found. IsWorth (choices_of rows.now) start.now found.0.ended.best) }
-    ensures exact { IfOk result
-        (λ found. found.1 ≡ true → IsExact rows.now.program budget found.0.ended) }
-    ensures err { OnErr result (LeavesBegun rules.most rows.now rules.floors head.now name.now
-        (F.files files.old) (F.files files.new)) }
-    ensures kept { KeepsOthers
-        (stored F.files F.read_faults F.may_read F.may_write name.now files.old)
-        (stored F.files F.read_faults F.may_read F.may_write name.now files.new) }
-    ensures later { F.write_faults files.old ≤ F.write_faults files.new }
+    ensures begun { IfOk result (λ found. BeganFor sought.now found.0.ended.best) }
+    ensures exact { IfOk result (λ found. found.1 ≡ true → IsExactFor sought.now found.0.ended) }
+    ensures unguided { IfOk result (λ found. guided ≡ false → found.1 ≡ true) }
+    ensures err { OnErr result (LeavesBegun sought.now.rules.most sought.now.rows.now
+        sought.now.rules.floors head.now name.now (F.files files.old) (F.files files.new)) }
+    ensures frame { WritesOne F.Shelf name.now files.old files.new }
     ensures failed { result ≡ Err Stop.Failed
         → Rose (F.write_faults files.old) (F.write_faults files.new) }
 {
     let mut writer = LogWriter::begin_with(alloc, files, name, head)?;
-    match search_advised::<A, _, _>(
-        alloc,
-        rows,
-        rules.most,
-        rules.given,
-        rules.floors,
-        budget,
-        start,
-        &mut writer,
-        files,
-    ) {
-        Ok(guided) => {
-            let exact = guided.exact;
+    match put_search::<A, _, _>(alloc, sought, guided, &mut writer, files) {
+        Ok(found) => {
+            let exact = found.exact;
             let logged = Logged {
-                ended: guided.ended,
+                ended: found.ended,
                 writer,
             };
             Ok((logged, exact))
         }
-        Err(stop) => Err(stop_of(stop)),
-    }
-}
-
-// Begins a log and writes the proof of a search without a guide.
-fn log_hinted<A: Advisers, F: Shelf>(
-    alloc: Global,
-    rows: &Rows,
-    rules: SplitRules,
-    budget: u32,
-    start: &[u8],
-    head: &[u8],
-    files: &mut F,
-    name: &str,
-) -> Result<Logged, Stop>
-    requires searchable { AreSearchable rules.most rows.now }
-    requires budget { (1 ≤ budget) × (budget ≤ 100000) }
-    requires allowed { IsTrue (F.may_write files.old name.now) }
-    ensures logged { IfOk result (λ logged.
-        IsLogged
-        (λ tree. IsSearch rules.most rows.now rules.floors rules.given budget tree logged.ended)
-        rules.most rows.now rules.floors head.now name.now
-        (writing F.files F.read_faults F.may_read F.may_write logged.writer files.new)) }
-    ensures begun { IfOk result
-        (λ logged. IsWorth (choices_of rows.now) start.now logged.ended.best) }
-    ensures exact { IfOk result (λ logged. IsExact rows.now.program budget logged.ended) }
-    ensures err { OnErr result (LeavesBegun rules.most rows.now rules.floors head.now name.now
-        (F.files files.old) (F.files files.new)) }
-    ensures kept { KeepsOthers
-        (stored F.files F.read_faults F.may_read F.may_write name.now files.old)
-        (stored F.files F.read_faults F.may_read F.may_write name.now files.new) }
-    ensures later { F.write_faults files.old ≤ F.write_faults files.new }
-    ensures failed { result ≡ Err Stop.Failed
-        → Rose (F.write_faults files.old) (F.write_faults files.new) }
-{
-    let mut writer = LogWriter::begin_with(alloc, files, name, head)?;
-    match search_hinted::<A, _, _>(
-        alloc,
-        rows,
-        rules.most,
-        rules.given,
-        rules.floors,
-        budget,
-        start,
-        &mut writer,
-        files,
-    ) {
-        Ok(ended) => Ok(Logged { ended, writer }),
         Err(stop) => Err(stop_of(stop)),
     }
 }

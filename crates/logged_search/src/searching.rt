@@ -1,17 +1,20 @@
 //! Searches with the advice on plans, and where that leaves boxes open though budget is left, anew without it.
-ghost use Rattle.std.specs.Prelude.{◌≡◌, ◌≤◌, IfOk, length};
+ghost use Rattle.std.specs.Prelude.{◌≡◌, ◌≤◌, IfOk, IsErrOf, OnErr, OnOk, false, length, true};
+ghost use Rattle.proof_tree.specs.Taker.{Rose};
 ghost use Rattle.proof_tree.specs.Tree.{tree_of};
 ghost use Rattle.row_relax.specs.Choices.{HaveImages, choices_of};
-ghost use Rattle.branch_tree.specs.Searched.{AreSearchable, IsWorth, ended_of};
+ghost use Rattle.branch_tree.specs.Searched.{AreSearchable, IsBrokenOff, IsWorth, ended_of};
 ghost use Rattle.plan_told.specs.Ended.{IsSearchOf, IsSearched, empty_end};
 ghost use Rattle.logged_search.specs.Logging.{HasFewSplits};
+ghost use Rattle.logged_search.specs.laws.Sought.{BeganFor, CanSearch, IsEndingFor, IsExactFor, WasSearched};
 
 use crate::item_dropper::ItemDropper;
+use crate::sought::Sought;
 use crate::split_rules::SplitRules;
 use advised_search::{build_advised, build_hinted, search_advised, search_hinted};
 use box_advice::Advisers;
-use branch_tree::{Ended, Searched, is_searchable};
-use proof_tree::Capped;
+use branch_tree::{Ended, Guided, Searched, is_searchable};
+use proof_tree::{Capped, NodeTaker, TakeStop};
 use row_relax::Rows;
 use std::alloc::{AllocError, Global};
 
@@ -43,56 +46,79 @@ pub fn search_only<A: Advisers>(
     ensures begun { IfOk result (λ ended. IsWorth (choices_of rows.now) start.now ended.best) }
 {
     if is_searchable(&rows.program, rules.most) {
-        search_open::<A>(alloc, rows, rules, budget, start)
+        let sought = Sought {
+            rows,
+            rules,
+            budget,
+            start,
+        };
+        search_open::<A>(alloc, &sought)
     } else {
         Ok(empty_end())
     }
 }
 
 // Searches a root in which each slot has a value, and drops the proof.
-fn search_open<A: Advisers>(
-    alloc: Global,
-    rows: &Rows,
-    rules: SplitRules,
-    budget: u32,
-    start: &[u8],
-) -> Result<Ended, AllocError>
-    requires searchable { AreSearchable rules.most rows.now }
-    requires budget { (1 ≤ budget) × (budget ≤ 100000) }
-    ensures ended { IfOk result (IsSearched rules.most rows.now rules.floors rules.given budget) }
-    ensures begun { IfOk result (λ ended. IsWorth (choices_of rows.now) start.now ended.best) }
+fn search_open<A: Advisers>(alloc: Global, sought: &Sought) -> Result<Ended, AllocError>
+    requires { CanSearch sought.now }
+    ensures ended { IfOk result (IsEndingFor sought.now) }
+    ensures begun { IfOk result (λ ended. BeganFor sought.now ended.best) }
 {
     let mut taker = ItemDropper;
-    let Ok(guided) = search_advised::<A, _, _>(
-        alloc,
-        rows,
-        rules.most,
-        rules.given,
-        rules.floors,
-        budget,
-        start,
-        &mut taker,
-        &mut (),
-    ) else {
+    let Ok(guided) = put_search::<A, _, _>(alloc, sought, true, &mut taker, &mut ()) else {
         return Err(AllocError);
     };
     if guided.exact {
         return Ok(guided.ended);
     }
-    match search_hinted::<A, _, _>(
-        alloc,
-        rows,
-        rules.most,
-        rules.given,
-        rules.floors,
-        budget,
-        start,
-        &mut taker,
-        &mut (),
-    ) {
-        Ok(ended) => Ok(ended),
+    match put_search::<A, _, _>(alloc, sought, false, &mut taker, &mut ()) {
+        Ok(second) => Ok(second.ended),
         Err(_) => Err(AllocError),
     }
+}
+
+// Searches a root in which each slot has a value, with both advisers or without a guide, and puts the items of the proof. The answer
+// also says whether the count is exact, as it is without a guide.
+pub(crate) fn put_search<A: Advisers, O, T: NodeTaker<Rows, O>>(
+    alloc: Global,
+    sought: &Sought,
+    guided: bool,
+    taker: &mut T,
+    out: &mut O,
+) -> Result<Guided, TakeStop>
+    requires can { CanSearch sought.now }
+    requires ready { T.ready taker.old out.old }
+    ensures ready { OnOk result (T.ready taker.new out.new) }
+    ensures ok { IfOk result (λ found. WasSearched T.took sought.now found.ended taker.old
+        out.old taker.new out.new) }
+    ensures begun { IfOk result (λ found. BeganFor sought.now found.ended.best) }
+    ensures exact { IfOk result (λ found. found.exact ≡ true → IsExactFor sought.now found.ended) }
+    ensures unguided { IfOk result (λ found. guided ≡ false → found.exact ≡ true) }
+    ensures err { OnErr result (IsBrokenOff T.took T.broke sought.now.rules.most
+        sought.now.rows.now sought.now.rules.floors taker.old out.old taker.new out.new) }
+    ensures later { T.faults out.old ≤ T.faults out.new }
+    ensures failed { IsErrOf result TakeStop.Failed → Rose (T.faults out.old) (T.faults out.new) }
+{
+    let Sought {
+        rows,
+        rules,
+        budget,
+        start,
+    } = *sought;
+    let SplitRules {
+        given,
+        floors,
+        most,
+    } = rules;
+    if guided {
+        return search_advised::<A, _, _>(
+            alloc, rows, most, given, floors, budget, start, taker, out,
+        );
+    }
+    let ended = search_hinted::<A, _, _>(
+        alloc, rows, most, given, floors, budget, start, taker, out,
+    )?;
+    Ok(Guided { ended, exact: true })
 }
 
 /// Searches the root, and builds the proof.
@@ -107,25 +133,14 @@ pub fn search_built<A: Advisers>(
     ensures { IfOk result (λ searched. IsSearchOf rules.most rows.now rules.floors rules.given budget
         (ended_of searched) (tree_of searched.tree)) }
 {
-    let (searched, exact) = build_advised::<A>(
-        alloc,
-        rows,
-        rules.most,
-        rules.given,
-        rules.floors,
-        budget,
-        &[],
-    )?;
+    let SplitRules {
+        given,
+        floors,
+        most,
+    } = rules;
+    let (searched, exact) = build_advised::<A>(alloc, rows, most, given, floors, budget, &[])?;
     if exact {
         return Ok(searched);
     }
-    build_hinted::<A>(
-        alloc,
-        rows,
-        rules.most,
-        rules.given,
-        rules.floors,
-        budget,
-        &[],
-    )
+    build_hinted::<A>(alloc, rows, most, given, floors, budget, &[])
 }

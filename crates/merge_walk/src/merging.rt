@@ -1,5 +1,5 @@
 //! The merged proof, written node by node.
-ghost use Rattle.std.specs.Prelude.{◌≡◌, ◌<◌, List as Items, map, Err, IsTrue, IfOk, IfSome};
+ghost use Rattle.std.specs.Prelude.{◌≡◌, List as Items, map, Err, IsTrue, IfOk, IfSome};
 ghost use Rattle.stn_edge.specs.Count.{Rose};
 ghost use Rattle.row_relax.specs.View.{Fits, view_of};
 ghost use Rattle.log_nodes.specs.laws.Seen.{seen};
@@ -8,7 +8,7 @@ ghost use Rattle.store_frames.specs.Frames.{ReadsAndWritesOne};
 ghost use Rattle.merged_nodes.specs.declared.sources.Source.{Source};
 ghost use Rattle.merge_walk.specs.laws.Closing.{KeepsClosing};
 ghost use Rattle.merged_nodes.specs.laws.Looked.{AreApart, AreReading, HasLooked, MayReadAll};
-ghost use Rattle.merge_walk.specs.laws.Walked.{HasMerged, HasMergedParts, HasMergedSplit};
+ghost use Rattle.merge_walk.specs.laws.Walked.{CanMerge, HasMerged, HasMergedParts, HasMergedSplit};
 
 use log_nodes::{MOST_NODES, Node, cut_down, item_of};
 use log_parts::{JoinStop, put_item};
@@ -55,7 +55,7 @@ pub fn merge_node<F: Shelf>(
     let Some(looked) = look(merging.alloc, merging, files, sources, area, depth)? else {
         return Ok(None);
     };
-    merge_looked(merging, files, sources, writer, area, depth, looked)
+    merge_looked(merging, files, sources, looked, writer, area, depth)
 }
 
 // Writes what is merged of the nodes that were looked at: an end that closes its box; else a split; else an end.
@@ -64,17 +64,12 @@ fn merge_looked<F: Shelf>(
     merging: Merging,
     files: &mut F,
     sources: &mut Vec<Source>,
+    looked: Looked,
     writer: &mut LogWriter,
     area: &mut Area,
     depth: u32,
-    looked: Looked,
 ) -> Result<Option<Capped>, JoinStop>
-    requires may_read { MayReadAll (F.may_read files.old) merging.stem.now sources.old.items }
-    requires may_write { IsTrue (F.may_write files.old (name_of writer.old)) }
-    requires apart { AreApart (name_of writer.old) merging.stem.now sources.old.items }
-    requires reading { AreReading (F.files files.old) merging.stem.now sources.old.items }
-    requires fits { Fits merging.rows.now.program (seen area.old) }
-    requires depth { depth < 36865 }
+    requires can { CanMerge F.Shelf merging files.old sources.old.items writer.old area.old depth }
     ensures merged { (before : Items Source) → HasLooked merging.entry.rows.now
         (seen area.old) (F.files files.old) merging.entry.stem.now depth before
         sources.old.items looked → IfOk result (λ cap. IfSome cap
@@ -107,7 +102,7 @@ fn merge_looked<F: Shelf>(
                 Ok(None)
             }
         }
-        None => merge_split(merging, files, sources, writer, area, depth, split),
+        None => merge_split(merging, files, sources, split, writer, area, depth),
     }
 }
 
@@ -133,17 +128,12 @@ fn merge_split<F: Shelf>(
     merging: Merging,
     files: &mut F,
     sources: &mut Vec<Source>,
+    node: Node,
     writer: &mut LogWriter,
     area: &mut Area,
     depth: u32,
-    node: Node,
 ) -> Result<Option<Capped>, JoinStop>
-    requires may_read { MayReadAll (F.may_read files.old) merging.stem.now sources.old.items }
-    requires may_write { IsTrue (F.may_write files.old (name_of writer.old)) }
-    requires apart { AreApart (name_of writer.old) merging.stem.now sources.old.items }
-    requires reading { AreReading (F.files files.old) merging.stem.now sources.old.items }
-    requires fits { Fits merging.rows.now.program (seen area.old) }
-    requires depth { depth < 36865 }
+    requires can { CanMerge F.Shelf merging files.old sources.old.items writer.old area.old depth }
     ensures merged { IfOk result (λ cap. IfSome cap (HasMergedSplit merging.entry.rows.now
         merging.entry.best (seen area.old) node (F.files files.old) (F.files files.new)
         merging.entry.stem.now depth sources.old.items sources.new.items writer.old
@@ -171,7 +161,7 @@ fn merge_split<F: Shelf>(
         return Ok(None);
     };
     let floor = merging.rows.trim(area, pick, cert);
-    match merge_parts(merging, files, sources, writer, area, depth, pick)? {
+    match merge_parts(merging, files, sources, pick, writer, area, depth)? {
         Some(cap) => {
             merging.rows.back(area, mark);
             Ok(Some(greater_cap(floor_cap(floor), cap)))
@@ -186,17 +176,12 @@ fn merge_parts<F: Shelf>(
     merging: Merging,
     files: &mut F,
     sources: &mut Vec<Source>,
+    pick: &RowPick,
     writer: &mut LogWriter,
     area: &mut Area,
     depth: u32,
-    pick: &RowPick,
 ) -> Result<Option<Capped>, JoinStop>
-    requires may_read { MayReadAll (F.may_read files.old) merging.stem.now sources.old.items }
-    requires may_write { IsTrue (F.may_write files.old (name_of writer.old)) }
-    requires apart { AreApart (name_of writer.old) merging.stem.now sources.old.items }
-    requires reading { AreReading (F.files files.old) merging.stem.now sources.old.items }
-    requires fits { Fits merging.rows.now.program (seen area.old) }
-    requires depth { depth < 36865 }
+    requires can { CanMerge F.Shelf merging files.old sources.old.items writer.old area.old depth }
     ensures merged { IfOk result (λ cap. IfSome cap (HasMergedParts merging.entry.rows.now
         merging.entry.best (seen area.old) pick.now (F.files files.old) (F.files files.new)
         merging.entry.stem.now depth sources.old.items sources.new.items writer.old

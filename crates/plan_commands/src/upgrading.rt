@@ -13,7 +13,7 @@ use std::alloc::{AllocError, Global};
 use stn_edge::Shelf;
 use stn_model::Plant;
 
-/// Prints the plant in a file as a plant file of version 2. The files are as before.
+/// Prints the plant in a file as a plant file: of version 3 where it is of version 3, else of version 2. The files are as before.
 pub fn upgrade_file<F: Shelf>(alloc: Global, files: &mut F, name: &str) -> Result<Reply, Stopped>
     requires { IsTrue (F.may_read files.old name.now) }
     ensures answer { IfReplied result (λ reply. IsPlantAnswer (F.files files.old)

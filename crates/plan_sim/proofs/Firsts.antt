@@ -230,7 +230,7 @@ module _ (plant : Plant) (plan : List Start) (stocks : List ℤ) (loads : List �
     first = load_not_before plant plan u p units (plan_kept p (let w = first.within in omega arith) first.before) (λ k h. stock_kept k p h (let w = first.within in omega arith) (first.levels k h)) (λ k h. load_kept k p (let w = first.there in omega arith) first.within (first.earlier k h));
   }
 
-by_order : (a b : ℤ) → (a ≤ℤ b) ⊎ (b <ℤ a)
+pub by_order : (a b : ℤ) → (a ≤ℤ b) ⊎ (b <ℤ a)
 by_order a b = by_lt_z b a inr inl
 
 -- the level of a stock that is not kept, and not below 0, is above its limit
@@ -244,7 +244,7 @@ high_level plant stocks s t fault low = above_limit (level plant stocks s t) (sl
 -- ---- units
 
 -- what holds of the start at each place holds of all
-all_from_places : (P : Start → Type 0) (plan : List Start) → ((k : ℕ) → k < length plan → P (start_at plan k)) → All P plan
+pub all_from_places : (P : Start → Type 0) (plan : List Start) → ((k : ℕ) → k < length plan → P (start_at plan k)) → All P plan
 all_from_places P plan h k d l = subst P (get_or_default plan k no_start d l) (h k l)
 
 pub fit_all : (plant : Plant) (plan : List Start) → FitUntil plant plan (length plan) → All (Fits plant) plan
@@ -304,10 +304,10 @@ feasible_breaks_nothing plant plan f (StockHigh s t) breaks = high_breaks plant 
 feasible_breaks_nothing plant plan f (Load u p) breaks = (let k = f.loads u p breaks.0 breaks.1 in let b = breaks.2 in omega (arith, k, b))
 
 -- whether a start fits can be decided
-fits_decided : (plant : Plant) (start : Start) → Fits plant start ⊎ (¬ Fits plant start)
+pub fits_decided : (plant : Plant) (start : Start) → Fits plant start ⊎ (¬ Fits plant start)
 fits_decided plant start = elim (cases_Bool (is_fit plant start)) [ inl fits ↦ inl fits | inr out ↦ inr (λ fits. false≢true (sym out ∙ fits)) ]
 
-apart_decided : (plant : Plant) (a b : Start) → ¬ (¬ Apart plant a b) → Apart plant a b
+pub apart_decided : (plant : Plant) (a b : Start) → ¬ (¬ Apart plant a b) → Apart plant a b
 apart_decided plant a b h unit = elim (cases_lt b.period (end_of plant a)) [
   | inr g ↦ inl g
   | inl l ↦ elim (cases_lt a.period (end_of plant b)) [
@@ -316,7 +316,7 @@ apart_decided plant a b h unit = elim (cases_lt b.period (end_of plant a)) [
   ]
 ]
 
-high_decided : (x : ℤ) (o : Option ℕ) → ¬ IsSomeAnd o (λ limit. pos limit <ℤ x) → IfSome o (λ limit. x ≤ℤ pos limit)
+pub high_decided : (x : ℤ) (o : Option ℕ) → ¬ IsSomeAnd o (λ limit. pos limit <ℤ x) → IfSome o (λ limit. x ≤ℤ pos limit)
 high_decided x None h = tt
 high_decided x (Some limit) h = elim (by_order x (pos limit)) [ inl l ↦ l | inr g ↦ absurd (h g) ]
 

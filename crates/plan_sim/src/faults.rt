@@ -78,7 +78,7 @@ fn is_within(limits: &[u64], time: usize, level: i128) -> bool
 }
 
 /// The first utility whose load is not kept in the period.
-fn first_use(plant: &Plant, loads: &[u128], period: usize) -> Option<usize>
+pub fn first_use(plant: &Plant, loads: &[u128], period: usize) -> Option<usize>
     requires sound { Sound plant.now }
     requires loads { length loads.now ≡ length plant.now.utilities * plant.now.periods }
     requires within { period < plant.now.periods }

@@ -2,11 +2,11 @@
 //! first. It steps the stocks of all states and the loads of all utilities through the periods.
 #![tactic(auto)]
 
-mod faults;
+pub mod faults;
 pub mod loads;
 mod moves;
 pub mod nearest;
-mod profit;
+pub mod profit;
 mod simulation;
 pub mod stocks;
 mod units;

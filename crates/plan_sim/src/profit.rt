@@ -14,7 +14,7 @@ use crate::units::change_costs;
 use stn_model::{Plant, Start, all_payments, rate_in, run_for};
 
 /// What a plan earns: end stocks and payments, less the costs of holding, utilities, starts and
-/// changeovers.
+/// changeovers. It takes no memory, and time with the tables and with the square of the plan.
 pub fn profit_of(plant: &Plant, plan: &[Start], stocks: &[i128], loads: &[u128]) -> i128
     requires sound { Sound plant.now }
     requires few { length plan.now < 2 ^ 32 }
@@ -23,7 +23,8 @@ pub fn profit_of(plant: &Plant, plan: &[Start], stocks: &[i128], loads: &[u128])
     requires small { All (λ level. unsigned_abs level ≤ 2 ^ 90) stocks.now }
     requires loads { IsLoadTable plant.now plan.now loads.now }
     requires kept { AreUsesKept plant.now loads.now }
-    ensures { result ≡ profit plant.now plan.now }
+    ensures value { result ≡ profit plant.now plan.now }
+    ensures small { unsigned_abs result ≤ 2 ^ 126 + 2 ^ 125 + 2 ^ 121 }
 {
     less_starts(plant, plan, stocks, loads) - change_costs(plant, plan) as i128
 }

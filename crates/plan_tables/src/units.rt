@@ -134,7 +134,8 @@ fn charges(plant: &Plant, batches: &[Start]) -> u128
 // How many periods the unit runs, is out of use, is cleaned and is idle.
 fn count_periods(plant: &Plant, batches: &[Start], found: &[Cleaning], unit: u32) -> UnitTimes
     requires { found.now ≡ cleanings_of plant.now batches.now unit }
-    ensures running { result.running ≡ running_periods plant.now batches.now unit plant.now.periods }
+    ensures running { result.running
+        ≡ running_periods plant.now batches.now unit plant.now.periods }
     ensures out { result.out ≡ out_periods plant.now batches.now unit plant.now.periods }
     ensures cleaning { result.cleaning
         ≡ cleaning_periods plant.now batches.now unit plant.now.periods }

@@ -16,3 +16,5 @@ pub mod Dates
 pub mod Texts
 pub mod Counts
 pub mod MadeSound
+pub mod Marks
+pub mod Remarks

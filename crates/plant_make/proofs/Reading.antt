@@ -208,7 +208,7 @@ last_named scope plant unit reads sound = IfSome_then unit.last sound.last (λ b
 
 -- and its end is in its range, where the other key is there
 last_kept : (scope : Scope) (plant : Plant) (alone : Bool) (last : Option Last) → IsScopeOf plant scope → IfSome last (SoundLast plant) → IfSome last (λ batch. alone ≡ false)
-    → IfSome last (λ batch. (alone ≡ false) × (negsuc 95 ≤ℤ batch.until) × (batch.until ≤ℤ pos scope.periods))
+    → IfSome last (λ batch. (alone ≡ false) × (negsuc 335 ≤ℤ batch.until) × (batch.until ≤ℤ pos scope.periods))
 last_kept scope plant alone None reads sound with_other = tt
 last_kept scope plant alone (Some last) reads sound with_other = (with_other, sound.early, rw reads.periods sound.late)
 
@@ -227,7 +227,7 @@ unit_ok scope plant place unit reads sound few declared =
       passes _ _ (head_ok _ _ es (unit_known scope place inside plant unit by_version))
           (passes _ _ (name_ok _ _ _ _ _ _ name sound.name declared)
           (passes _ _ (mention_ok _ (since scope.third key.Last) plant unit.last _ holds.last refl)
-          (passes _ _ (moment_ok _ (since scope.third key.Until) alone (negsuc 95) (pos scope.periods) unit.last _ holds.until refl kept) nothing))),
+          (passes _ _ (moment_ok _ (since scope.third key.Until) alone (negsuc 335) (pos scope.periods) unit.last _ holds.until refl kept) nothing))),
       rw (name, back) refl,
     )
 

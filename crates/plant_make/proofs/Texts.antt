@@ -2,7 +2,7 @@
 use Rattle.std.proofs.Common.{◌≡◌, ℕ, ◌≤◌, nat_lt, false, List, ◌++◌, length, Some, Ok, refl, ap}
 use Rattle.std.specs.Str.{IsUtf8}
 use Rattle.std.proofs.lemmas.Str.{is_utf8-from_IsUtf8}
-use Rattle.toml.specs.Parse.{parse_document}
+use Rattle.toml.specs.Parse.{parse_document, skip_bom}
 use Rattle.stn_model.specs.declared.plant.Plant.{Plant}
 use Rattle.stn_model.specs.Sound.{Sound}
 use Rattle.plant_text.specs.Document.{document_of, top_of, is_third, max_bytes, plant_tests, plant_of}
@@ -31,8 +31,8 @@ text_reads plant text document means short =
     rw (one_more _ _ _ fits means.passes, means.is) refl
 
 -- appending such a text puts the plant
-pub text_puts : (plant : Plant) (text old new : List ℕ) → Sound plant → IsUtf8 text → parse_document text ≡ Some (table_of (plant_entries plant)) → new ≡ old ++ text → Puts plant old new
-text_puts plant text old new sound utf8 parsed appended =
+pub text_puts : (plant : Plant) (text old new : List ℕ) → Sound plant → IsUtf8 text → parse_document text ≡ Some (table_of (plant_entries plant)) → skip_bom text ≡ text → new ≡ old ++ text → Puts plant old new
+text_puts plant text old new sound utf8 parsed unmarked appended =
     let document : document_of text ≡ Some (table_of (plant_entries plant)) = rw (is_utf8-from_IsUtf8 text utf8) parsed in
     let means = text_means plant text sound document in
-    record { text = text; appended = appended; document = document; means = means; reads = text_reads plant text document means }
+    record { text = text; appended = appended; document = document; means = means; unmarked = unmarked; reads = text_reads plant text document means }

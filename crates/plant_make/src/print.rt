@@ -2,7 +2,7 @@
 ghost use Rattle.std.specs.Prelude.{◌≡◌, if◌then◌else◌, Some, OnOk, OnErr, IfOk, string_bytes};
 ghost use Rattle.std.specs.List.{fold};
 ghost use Rattle.toml.specs.View.{table_view};
-ghost use Rattle.toml.specs.Parse.{parse_document};
+ghost use Rattle.toml.specs.Parse.{parse_document, skip_bom};
 ghost use Rattle.stn_model.specs.Sound.{Sound};
 ghost use Rattle.plant_make.specs.Entries.{table_of, with_entry};
 ghost use Rattle.plant_make.specs.Printed.{plant_entries};
@@ -65,8 +65,9 @@ fn document(alloc: Global, plant: &Plant) -> Result<Table, AllocError>
 // The text of a plant's document. The document has no date, so want of memory is the only error.
 fn text_of(alloc: Global, plant: &Plant) -> Result<String, AllocError>
     requires { Sound plant.now }
-    ensures { IfOk result (λ text. parse_document (string_bytes text)
+    ensures parsed { IfOk result (λ text. parse_document (string_bytes text)
         ≡ Some (table_of (plant_entries plant.now))) }
+    ensures unmarked { IfOk result (λ text. skip_bom (string_bytes text) ≡ string_bytes text) }
 {
     let table = document(alloc, plant)?;
     match toml::table_to_string(alloc, &table) {

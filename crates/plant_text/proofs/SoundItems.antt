@@ -99,12 +99,12 @@ utility_sound scope number d e =
 
 -- the batch that held a unit last: its task is declared, and its end is in its range
 last_sound : (scope : Scope) (plant : Plant) (place : Place) (key : Key) (alone : Bool) (name ends : Option Data) → Below (length plant.tasks) scope.tasks → plant.periods ≡ scope.periods
-    → is_stray scope.tasks name ≡ false → Pass (value_tests place key (moment alone (negsuc 95) (pos scope.periods)) ends)
+    → is_stray scope.tasks name ≡ false → Pass (value_tests place key (moment alone (negsuc 335) (pos scope.periods)) ends)
     → IfSome (option_map (λ (number : ℕ). let last : Last = record { task = number; until = unwrap_or (option_map integer_of ends) (pos 0) } in last) (option_map (place_of scope.tasks) name)) (SoundLast plant)
 last_sound scope plant place key alone None ends tasks horizon declared e = tt
 last_sound scope plant place key alone (Some d) ends tasks horizon declared e =
     let k = is_there (scope.tasks (text_of d)) declared in
-    let span = time_within place key alone (negsuc 95) (pos scope.periods) ends (omega (arith, ints)) (omega (arith, ints)) e in
+    let span = time_within place key alone (negsuc 335) (pos scope.periods) ends (omega (arith, ints)) (omega (arith, ints)) e in
     record { task = rw k.1 (tasks (text_of d) k.0 k.1); early = span.early; late = rw horizon span.late }
 
 pub unit_sound : (scope : Scope) (plant : Plant) → Below (length plant.tasks) scope.tasks → plant.periods ≡ scope.periods

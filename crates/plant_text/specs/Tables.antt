@@ -89,7 +89,7 @@ unfoldable pub unit_fields : Scope → ℕ → Members → List Field
 unit_fields scope number inside =
     row (needed key.Name) (declares scope.units number)
     ∷ row (since scope.third key.Last) mentions
-    ∷ row (since scope.third key.Until) (moment (not (is_there inside key.Last)) (negsuc 95) (pos scope.periods)) ∷ []
+    ∷ row (since scope.third key.Until) (moment (not (is_there inside key.Last)) (negsuc 335) (pos scope.periods)) ∷ []
 
 -- the place of a unit
 abbrev pub unit_place : ℕ → Place

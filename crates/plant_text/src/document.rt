@@ -129,30 +129,14 @@ fn context_of(alloc: Global, document: &Table, periods: u32) -> Result<Context, 
 {
     let second = is_second(document);
     let third = is_third(document);
-    let states = names(
-        alloc,
-        document,
-        KeyName::State,
-        most(third, SMALL_STATES, MAX_STATES),
-    )?;
-    let utilities = names(
-        alloc,
-        document,
-        KeyName::Utility,
-        most(third, SMALL_UTILITIES, MAX_UTILITIES),
-    )?;
-    let units = names(
-        alloc,
-        document,
-        KeyName::StnUnit,
-        most(third, SMALL_UNITS, MAX_UNITS),
-    )?;
-    let tasks = names(
-        alloc,
-        document,
-        KeyName::Task,
-        most(third, SMALL_TASKS, MAX_TASKS),
-    )?;
+    let most_states = most(third, SMALL_STATES, MAX_STATES);
+    let most_utilities = most(third, SMALL_UTILITIES, MAX_UTILITIES);
+    let most_units = most(third, SMALL_UNITS, MAX_UNITS);
+    let most_tasks = most(third, SMALL_TASKS, MAX_TASKS);
+    let states = names(alloc, document, KeyName::State, most_states)?;
+    let utilities = names(alloc, document, KeyName::Utility, most_utilities)?;
+    let units = names(alloc, document, KeyName::StnUnit, most_units)?;
+    let tasks = names(alloc, document, KeyName::Task, most_tasks)?;
     Ok(Context {
         second,
         third,

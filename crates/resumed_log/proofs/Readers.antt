@@ -1,6 +1,6 @@
 -- A log that is read while another is written.
 use Rattle.std.proofs.Common.{◌≡◌, ◌≢◌, ◌∙◌, ℕ, Bool, List, Option, None, sym, subst}
-use Rattle.std.specs.Prelude.{IsTrue}
+use Rattle.std.specs.Prelude.{IsTrue, OnOk, Result, Ok, Err}
 use Rattle.stn_edge.specs.Files.{FileMap, OthersStay}
 use Rattle.proof_log.specs.declared.log_reader.LogReader.{LogReader}
 use Rattle.proof_log.specs.Writer.{KeepsOthers, Writing}
@@ -11,6 +11,11 @@ use Rattle.log_nodes.specs.Reading.{IsReading}
 use Rattle.log_nodes.proofs.Frames.{others-then}
 use Rattle.log_parts.proofs.Copies.{read_stays, same_file}
 use Rattle.resumed_log.specs.laws.Walks.{CanWriteBeside, GoesOnWalking}
+
+-- what follows from two facts of a call that did what it was to do
+pub on_ok_both : {T E P Q R : Type 0} (r : Result T E) → (P → Q → R) → OnOk r P → OnOk r Q → OnOk r R
+on_ok_both (Ok x) to p q = to p q
+on_ok_both (Err e) to p q = tt
 
 -- a reader reads a file on where another one changes
 pub reading-stays : (name out : List ℕ) (r : LogReader) (old new : Option FileMap) → OthersStay out old new → out ≢ name → IsReading old name r → IsReading new name r

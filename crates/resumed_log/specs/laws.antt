@@ -1,3 +1,4 @@
 -- What only clauses of private functions cite: the language wants the definitions of every clause in specs/.
 pub mod Beside
 pub mod Walks
+pub mod Stops

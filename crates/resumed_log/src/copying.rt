@@ -1,9 +1,9 @@
 //! A log written again as it is.
-ghost use Rattle.std.specs.Prelude.{◌≡◌, Err};
-ghost use Rattle.stn_edge.specs.Count.{Rose};
+ghost use Rattle.std.specs.Prelude.{◌≡◌};
 ghost use Rattle.store_frames.specs.Frames.{ReadsAndWritesOne};
 ghost use Rattle.log_nodes.specs.Reading.{IsReading};
 ghost use Rattle.resumed_log.specs.laws.Beside.{out_name};
+ghost use Rattle.resumed_log.specs.laws.Stops.{Stops};
 ghost use Rattle.resumed_log.specs.laws.Walks.{CanWriteBeside};
 
 use crate::new_log::{Out, begin, finish};
@@ -19,10 +19,7 @@ pub fn copy_whole<F: Shelf>(alloc: Global, task: Task, files: &mut F) -> Result<
     requires beside { CanWriteBeside (F.may_read files.old) (F.may_write files.old)
         task.pair.log.now task.pair.out.now }
     ensures frame { ReadsAndWritesOne F.Shelf task.entry.pair.out.now files.old files.new }
-    ensures read_fault { result ≡ Err WalkStop.ReadFault
-        → Rose (F.read_faults files.old) (F.read_faults files.new) }
-    ensures write_fault { result ≡ Err WalkStop.WriteFault
-        → Rose (F.write_faults files.old) (F.write_faults files.new) }
+    ensures stops { Stops F.Shelf result files.old files.new }
 {
     let mut out = begin(alloc, files, task.pair.out, task.head)?;
     let claim = copy_proof(alloc, task, files, &mut out)?;
@@ -40,10 +37,7 @@ fn copy_proof<F: Shelf>(
         task.pair.log.now (out_name out.old) }
     ensures named { out_name out.new ≡ out_name out.old }
     ensures frame { ReadsAndWritesOne F.Shelf (out_name out.old) files.old files.new }
-    ensures read_fault { result ≡ Err WalkStop.ReadFault
-        → Rose (F.read_faults files.old) (F.read_faults files.new) }
-    ensures write_fault { result ≡ Err WalkStop.WriteFault
-        → Rose (F.write_faults files.old) (F.write_faults files.new) }
+    ensures stops { Stops F.Shelf result files.old files.new }
 {
     let mut reader = reader_at(alloc, task.front)?;
     copy_items(task.pair, files, &mut reader, out)
@@ -61,10 +55,7 @@ fn copy_items<F: Shelf>(
     requires reading { IsReading (F.files files.old) pair.log.now reader.old }
     ensures named { out_name out.new ≡ out_name out.old }
     ensures frame { ReadsAndWritesOne F.Shelf (out_name out.old) files.old files.new }
-    ensures read_fault { result ≡ Err WalkStop.ReadFault
-        → Rose (F.read_faults files.old) (F.read_faults files.new) }
-    ensures write_fault { result ≡ Err WalkStop.WriteFault
-        → Rose (F.write_faults files.old) (F.write_faults files.new) }
+    ensures stops { Stops F.Shelf result files.old files.new }
 {
     'parts: for _ in 0..u64::MAX {
         match reader.next(files, pair.log)? {

@@ -5,9 +5,8 @@ ghost use Rattle.row_relax.specs.declared.rows.Rows.{Rows};
 ghost use Rattle.row_relax.specs.View.{Fits, view_of};
 ghost use Rattle.branch_tree.specs.laws.Going.{CanGoOn};
 ghost use Rattle.store_frames.specs.Frames.{OnlyReads};
-ghost use Rattle.log_nodes.specs.Reading.{IsReading};
 ghost use Rattle.log_nodes.specs.laws.Seen.{StandsBelow, seen};
-ghost use Rattle.resumed_log.specs.laws.Walks.{GoesOnWalking};
+ghost use Rattle.resumed_log.specs.laws.Walks.{CanWalk, GoesOnWalking};
 
 use crate::claiming::point_of;
 use crate::leaves::{cap_of, may_search};
@@ -18,7 +17,6 @@ use log_nodes::{Ending, Front, Node, Pair, WalkStop, enter_node, is_open, reader
 use proof_log::{Claim, LogPart, LogReader};
 use proof_tree::{Capped, Relaxation};
 use row_kit::{Area, Found};
-use row_relax::RowPick;
 use std::alloc::{AllocError, Global};
 use stn_edge::Shelf;
 
@@ -130,8 +128,12 @@ pub fn gather<F: Shelf>(
 {
     let mut reader = reader_at(alloc, front)?;
     let mut area = pair.rows.root_area(alloc)?;
-    let walk = Walk { alloc, pair };
-    gather_node(walk, files, &mut reader, gathered, &mut area, 0)?;
+    let walk = Walk {
+        alloc,
+        pair,
+        depth: 0,
+    };
+    gather_node(walk, files, &mut reader, gathered, &mut area)?;
     gather_claim(pair, files, &mut reader, gathered)
 }
 
@@ -167,12 +169,9 @@ fn gather_node<F: Shelf>(
     reader: &mut LogReader,
     gathered: &mut Gathered,
     area: &mut Area,
-    depth: u32,
 ) -> Result<(), WalkStop>
-    requires allowed { IsTrue (F.may_read files.old walk.pair.log.now) }
-    requires walking { GoesOnWalking (F.files files.old) walk.pair.log.now reader.old
-        walk.pair.most walk.pair.rows.now gathered.old.going }
-    requires fits { Fits walk.pair.rows.now.program (seen area.old) }
+    requires can { CanWalk F.Shelf files.old walk.pair reader.old gathered.old.going
+        (seen area.old) }
     ensures walking { OnOk result (GoesOnWalking (F.files files.new) walk.entry.pair.log.now
         reader.new walk.entry.pair.most walk.entry.pair.rows.now gathered.new.going) }
     ensures as_before { OnOk result (map view_of area.new ≡ map view_of area.old) }
@@ -182,39 +181,14 @@ fn gather_node<F: Shelf>(
     ensures no_fault { result ≢ Err WalkStop.WriteFault }
 {
     let mark = walk.pair.rows.mark(area);
-    gather_entered(walk, files, reader, gathered, area, depth)?;
+    let node = enter_node(walk.alloc, walk.pair, files, reader, area)?;
+    gather_below(walk, files, reader, gathered, area, &node)?;
     walk.pair.rows.back(area, mark);
     Ok(())
 }
 
-// Reads a proof over an area, where its cuts are made.
-#[cycle(gather)]
-fn gather_entered<F: Shelf>(
-    walk: Walk,
-    files: &mut F,
-    reader: &mut LogReader,
-    gathered: &mut Gathered,
-    area: &mut Area,
-    depth: u32,
-) -> Result<(), WalkStop>
-    requires allowed { IsTrue (F.may_read files.old walk.pair.log.now) }
-    requires walking { GoesOnWalking (F.files files.old) walk.pair.log.now reader.old
-        walk.pair.most walk.pair.rows.now gathered.old.going }
-    requires fits { Fits walk.pair.rows.now.program (seen area.old) }
-    ensures walking { OnOk result (GoesOnWalking (F.files files.new) walk.entry.pair.log.now
-        reader.new walk.entry.pair.most walk.entry.pair.rows.now gathered.new.going) }
-    ensures below { OnOk result (StandsBelow walk.entry.pair.rows.now.program
-        (map view_of area.old) (map view_of area.new)) }
-    ensures frame { OnlyReads F.Shelf files.old files.new }
-    ensures read_fault { result ≡ Err WalkStop.ReadFault
-        → Rose (F.read_faults files.old) (F.read_faults files.new) }
-    ensures no_fault { result ≢ Err WalkStop.WriteFault }
-{
-    let node = enter_node(walk.alloc, walk.pair, files, reader, area)?;
-    gather_below(walk, files, reader, gathered, area, depth, &node)
-}
-
-// Keeps what a node tells, over an area after its cuts, and reads what stands below it.
+// Keeps what a node tells, over an area after its cuts, and reads what stands below it: both parts of a split, where the second is
+// taken.
 #[cycle(gather)]
 fn gather_below<F: Shelf>(
     walk: Walk,
@@ -222,13 +196,10 @@ fn gather_below<F: Shelf>(
     reader: &mut LogReader,
     gathered: &mut Gathered,
     area: &mut Area,
-    depth: u32,
     node: &Node,
 ) -> Result<(), WalkStop>
-    requires allowed { IsTrue (F.may_read files.old walk.pair.log.now) }
-    requires walking { GoesOnWalking (F.files files.old) walk.pair.log.now reader.old
-        walk.pair.most walk.pair.rows.now gathered.old.going }
-    requires fits { Fits walk.pair.rows.now.program (seen area.old) }
+    requires can { CanWalk F.Shelf files.old walk.pair reader.old gathered.old.going
+        (seen area.old) }
     ensures walking { OnOk result (GoesOnWalking (F.files files.new) walk.entry.pair.log.now
         reader.new walk.entry.pair.most walk.entry.pair.rows.now gathered.new.going) }
     ensures below { OnOk result (StandsBelow walk.entry.pair.rows.now.program
@@ -239,50 +210,25 @@ fn gather_below<F: Shelf>(
     ensures no_fault { result ≢ Err WalkStop.WriteFault }
 {
     gathered.note_found(&node.found)?;
-    match &node.end {
-        Ending::Split(pick, cert) => {
-            let _ = walk.pair.rows.trim(area, pick, cert);
-            gather_parts(walk, files, reader, gathered, area, depth, pick)
-        }
-        _ => Ok(gathered.note(walk.alloc, &walk.pair, area, depth, &node.end)?),
-    }
-}
-
-// Reads both parts of a split of an area, where the second is taken.
-#[cycle(gather)]
-fn gather_parts<F: Shelf>(
-    walk: Walk,
-    files: &mut F,
-    reader: &mut LogReader,
-    gathered: &mut Gathered,
-    area: &mut Area,
-    depth: u32,
-    pick: &RowPick,
-) -> Result<(), WalkStop>
-    requires allowed { IsTrue (F.may_read files.old walk.pair.log.now) }
-    requires walking { GoesOnWalking (F.files files.old) walk.pair.log.now reader.old
-        walk.pair.most walk.pair.rows.now gathered.old.going }
-    requires fits { Fits walk.pair.rows.now.program (seen area.old) }
-    ensures walking { OnOk result (GoesOnWalking (F.files files.new) walk.entry.pair.log.now
-        reader.new walk.entry.pair.most walk.entry.pair.rows.now gathered.new.going) }
-    ensures below { OnOk result (StandsBelow walk.entry.pair.rows.now.program
-        (map view_of area.old) (map view_of area.new)) }
-    ensures frame { OnlyReads F.Shelf files.old files.new }
-    ensures read_fault { result ≡ Err WalkStop.ReadFault
-        → Rose (F.read_faults files.old) (F.read_faults files.new) }
-    ensures no_fault { result ≢ Err WalkStop.WriteFault }
-{
-    if depth >= walk.pair.most {
+    let Ending::Split(pick, cert) = &node.end else {
+        return Ok(gathered.note(walk.alloc, &walk.pair, area, walk.depth, &node.end)?);
+    };
+    if walk.depth >= walk.pair.most {
         return Err(WalkStop::Other);
     }
+    let deeper = Walk {
+        depth: walk.depth + 1,
+        ..walk
+    };
+    let _ = walk.pair.rows.trim(area, pick, cert);
     let mark = walk.pair.rows.mark(area);
     if !walk.pair.rows.left(area, pick) {
         return Err(WalkStop::Other);
     }
-    gather_node(walk, files, reader, gathered, area, depth + 1)?;
+    gather_node(deeper, files, reader, gathered, area)?;
     walk.pair.rows.back(area, mark);
     if !walk.pair.rows.right(area, pick) {
         return Err(WalkStop::Other);
     }
-    gather_node(walk, files, reader, gathered, area, depth + 1)
+    gather_node(deeper, files, reader, gathered, area)
 }

@@ -1,10 +1,10 @@
 //! The search from a log, and what it comes to.
-ghost use Rattle.std.specs.Prelude.{◌≡◌, ◌≢◌, Err, IsTrue, IfOk};
-ghost use Rattle.stn_edge.specs.Count.{Rose};
+ghost use Rattle.std.specs.Prelude.{◌≡◌, IsTrue, IfOk};
 ghost use Rattle.branch_tree.specs.Searched.{IsSearchable};
 ghost use Rattle.branch_tree.specs.laws.Going.{CanGoOn};
 ghost use Rattle.store_frames.specs.Frames.{ReadsAndWritesOne, WritesOne};
 ghost use Rattle.resumed_log.specs.laws.Beside.{out_name};
+ghost use Rattle.resumed_log.specs.laws.Stops.{Stops, StopsWriting};
 ghost use Rattle.resumed_log.specs.laws.Walks.{CanWriteBeside};
 
 use crate::claiming::{claim_of, exceeds, within};
@@ -89,10 +89,7 @@ pub fn write_with<H: Hinter + Drop, G: EndGuide + Drop, F: Shelf>(
     requires beside { CanWriteBeside (F.may_read files.old) (F.may_write files.old)
         task.pair.log.now task.pair.out.now }
     ensures frame { ReadsAndWritesOne F.Shelf task.entry.pair.out.now files.old files.new }
-    ensures read_fault { result ≡ Err WalkStop.ReadFault
-        → Rose (F.read_faults files.old) (F.read_faults files.new) }
-    ensures write_fault { result ≡ Err WalkStop.WriteFault
-        → Rose (F.write_faults files.old) (F.write_faults files.new) }
+    ensures stops { Stops F.Shelf result files.old files.new }
 {
     let Advice {
         hinter,
@@ -125,10 +122,7 @@ fn write_course<H: Hinter + Drop, G: EndGuide + Drop, F: Shelf>(
     requires beside { CanWriteBeside (F.may_read files.old) (F.may_write files.old)
         task.pair.log.now (out_name course.out) }
     ensures frame { ReadsAndWritesOne F.Shelf (out_name course.entry.out) files.old files.new }
-    ensures read_fault { result ≡ Err WalkStop.ReadFault
-        → Rose (F.read_faults files.old) (F.read_faults files.new) }
-    ensures write_fault { result ≡ Err WalkStop.WriteFault
-        → Rose (F.write_faults files.old) (F.write_faults files.new) }
+    ensures stops { Stops F.Shelf result files.old files.new }
 {
     let mut course = course;
     write_proof(alloc, task, files, &mut course)?;
@@ -147,16 +141,17 @@ fn write_proof<H: Hinter + Drop, G: EndGuide + Drop, F: Shelf>(
         task.pair.log.now (out_name course.old.out) }
     ensures named { out_name course.new.out ≡ out_name course.old.out }
     ensures frame { ReadsAndWritesOne F.Shelf (out_name course.old.out) files.old files.new }
-    ensures read_fault { result ≡ Err WalkStop.ReadFault
-        → Rose (F.read_faults files.old) (F.read_faults files.new) }
-    ensures write_fault { result ≡ Err WalkStop.WriteFault
-        → Rose (F.write_faults files.old) (F.write_faults files.new) }
+    ensures stops { Stops F.Shelf result files.old files.new }
 {
     let pair = task.pair;
     let mut reader = reader_at(alloc, task.front)?;
     let mut area = pair.rows.root_area(alloc)?;
-    let walk = Walk { alloc, pair };
-    write_node(walk, files, &mut reader, course, &mut area, 0)
+    let walk = Walk {
+        alloc,
+        pair,
+        depth: 0,
+    };
+    write_node(walk, files, &mut reader, course, &mut area)
 }
 
 // Whether nothing is left to be searched on: no cap is above the best point, the budget is spent, or others search the other ends.
@@ -177,9 +172,7 @@ fn end_course<H: Hinter + Drop, G: EndGuide + Drop, F: Shelf>(
 ) -> Result<Written, WalkStop>
     requires may_write { IsTrue (F.may_write files.old (out_name course.out)) }
     ensures frame { WritesOne F.Shelf (out_name course.entry.out) files.old files.new }
-    ensures write_fault { result ≡ Err WalkStop.WriteFault
-        → Rose (F.write_faults files.old) (F.write_faults files.new) }
-    ensures no_fault { result ≢ Err WalkStop.ReadFault }
+    ensures stops { StopsWriting F.Shelf result files.old files.new }
 {
     let cap = within(course.cap, claim);
     let exact = is_exact(&task, &course.going, cap);

@@ -1,9 +1,9 @@
 //! The log that is written.
 ghost use Rattle.std.specs.Prelude.{◌≡◌, ◌≢◌, Err, IsTrue, IfOk, string_bytes};
-ghost use Rattle.stn_edge.specs.Count.{Rose};
 ghost use Rattle.proof_log.specs.Writer.{KeepsOthers, writing};
 ghost use Rattle.store_frames.specs.Frames.{WritesOne};
 ghost use Rattle.resumed_log.specs.laws.Beside.{kept-none, out_name};
+ghost use Rattle.resumed_log.specs.laws.Stops.{StopsWriting};
 
 use log_nodes::WalkStop;
 use proof_log::{Claim, LogWriter};
@@ -66,9 +66,7 @@ pub fn begin<F: Shelf>(
     requires may_write { IsTrue (F.may_write files.old name.now) }
     ensures named { IfOk result (λ out. out_name out ≡ name.now) }
     ensures frame { WritesOne F.Shelf name.now files.old files.new }
-    ensures write_fault { result ≡ Err WalkStop.WriteFault
-        → Rose (F.write_faults files.old) (F.write_faults files.new) }
-    ensures no_fault { result ≢ Err WalkStop.ReadFault }
+    ensures stops { StopsWriting F.Shelf result files.old files.new }
 {
     match LogWriter::begin_with(alloc, files, name, head) {
         Ok(writer) => Ok(Out {
@@ -83,9 +81,7 @@ pub fn begin<F: Shelf>(
 pub fn finish<F: Shelf>(out: Out, files: &mut F, claim: &Claim) -> Result<(), WalkStop>
     requires may_write { IsTrue (F.may_write files.old (out_name out)) }
     ensures frame { WritesOne F.Shelf (out_name out) files.old files.new }
-    ensures write_fault { result ≡ Err WalkStop.WriteFault
-        → Rose (F.write_faults files.old) (F.write_faults files.new) }
-    ensures no_fault { result ≢ Err WalkStop.ReadFault }
+    ensures stops { StopsWriting F.Shelf result files.old files.new }
 {
     match out.writer.finish(files, claim) {
         Ok(()) => Ok(()),

@@ -3,6 +3,7 @@ ghost use Rattle.std.specs.Prelude.{◌≡◌, ◌≢◌, Err, IsTrue};
 ghost use Rattle.stn_edge.specs.Count.{Rose};
 ghost use Rattle.branch_tree.specs.Searched.{IsSearchable};
 ghost use Rattle.store_frames.specs.Frames.{OnlyReads, ReadsAndWritesOne};
+ghost use Rattle.resumed_log.specs.laws.Stops.{Stops};
 ghost use Rattle.resumed_log.specs.laws.Walks.{CanWriteBeside};
 
 use crate::claiming::best_of;
@@ -55,10 +56,7 @@ fn write_log<A: EndAdvisers, F: Shelf>(
     requires beside { CanWriteBeside (F.may_read files.old) (F.may_write files.old)
         task.pair.log.now task.pair.out.now }
     ensures frame { ReadsAndWritesOne F.Shelf task.entry.pair.out.now files.old files.new }
-    ensures read_fault { result ≡ Err WalkStop.ReadFault
-        → Rose (F.read_faults files.old) (F.read_faults files.new) }
-    ensures write_fault { result ≡ Err WalkStop.WriteFault
-        → Rose (F.write_faults files.old) (F.write_faults files.new) }
+    ensures stops { Stops F.Shelf result files.old files.new }
 {
     if !is_searchable(&task.pair.rows.program, task.pair.most) {
         return copy_whole(alloc, task, files);
@@ -120,10 +118,7 @@ fn search_on<A: EndAdvisers, F: Shelf>(
     requires beside { CanWriteBeside (F.may_read files.old) (F.may_write files.old)
         task.pair.log.now task.pair.out.now }
     ensures frame { ReadsAndWritesOne F.Shelf task.entry.pair.out.now files.old files.new }
-    ensures read_fault { result ≡ Err WalkStop.ReadFault
-        → Rose (F.read_faults files.old) (F.read_faults files.new) }
-    ensures write_fault { result ≡ Err WalkStop.WriteFault
-        → Rose (F.write_faults files.old) (F.write_faults files.new) }
+    ensures stops { Stops F.Shelf result files.old files.new }
 {
     let Known { ends, best, claim } = known;
     let advice = advice_from::<A>(alloc, task, ends, &best)?;
@@ -170,10 +165,7 @@ fn search_anew<A: EndAdvisers, F: Shelf>(
     requires beside { CanWriteBeside (F.may_read files.old) (F.may_write files.old)
         task.pair.log.now task.pair.out.now }
     ensures frame { ReadsAndWritesOne F.Shelf task.entry.pair.out.now files.old files.new }
-    ensures read_fault { result ≡ Err WalkStop.ReadFault
-        → Rose (F.read_faults files.old) (F.read_faults files.new) }
-    ensures write_fault { result ≡ Err WalkStop.WriteFault
-        → Rose (F.write_faults files.old) (F.write_faults files.new) }
+    ensures stops { Stops F.Shelf result files.old files.new }
 {
     let program = &task.pair.rows.program;
     let choices = choices_of(task.pair.rows);

@@ -1,14 +1,14 @@
 //! The items of the old log and of what is searched on, written to the new one.
-ghost use Rattle.std.specs.Prelude.{◌≡◌, ◌≢◌, ℕ, map, Err, IsTrue, OnOk, false};
-ghost use Rattle.stn_edge.specs.Count.{Rose};
+ghost use Rattle.std.specs.Prelude.{◌≡◌, ◌<◌, ℕ, map, IsTrue, OnOk, false};
 ghost use Rattle.row_relax.specs.declared.rows.Rows.{Rows};
 ghost use Rattle.row_relax.specs.View.{Fits, view_of};
 ghost use Rattle.branch_tree.specs.Deep.{is_deep};
 ghost use Rattle.branch_tree.specs.laws.Going.{CanGoOn, HasLeft};
 ghost use Rattle.store_frames.specs.Frames.{ReadsAndWritesOne, WritesOne};
-ghost use Rattle.log_nodes.specs.laws.Seen.{StandsBelow, seen};
+ghost use Rattle.log_nodes.specs.laws.Seen.{seen};
 ghost use Rattle.resumed_log.specs.laws.Beside.{out_name};
-ghost use Rattle.resumed_log.specs.laws.Walks.{CanWriteBeside, GoesOnWalking};
+ghost use Rattle.resumed_log.specs.laws.Stops.{Stops, StopsWriting};
+ghost use Rattle.resumed_log.specs.laws.Walks.{CanRewrite, GoesOnWalking, HasWalked};
 
 use crate::claiming::exceeds;
 use crate::course::Course;
@@ -25,7 +25,6 @@ use proof_tree::{Item, NodeTaker, Relaxation, floor_cap, greater_cap};
 use range_prop::RowCut;
 use row_kit::{Area, Found};
 use row_relax::{RowPick, Rows};
-use std::alloc::Global;
 use stn_edge::Shelf;
 
 /// Puts an item.
@@ -33,9 +32,7 @@ pub fn put<F: Shelf>(out: &mut Out, files: &mut F, item: &Item<Rows>) -> Result<
     requires allowed { IsTrue (F.may_write files.old (out_name out.old)) }
     ensures named { out_name out.new ≡ out_name out.old }
     ensures frame { WritesOne F.Shelf (out_name out.old) files.old files.new }
-    ensures write_fault { result ≡ Err WalkStop.WriteFault
-        → Rose (F.write_faults files.old) (F.write_faults files.new) }
-    ensures no_fault { result ≢ Err WalkStop.ReadFault }
+    ensures stops { StopsWriting F.Shelf result files.old files.new }
 {
     Ok(out.put(files, item)?)
 }
@@ -45,9 +42,7 @@ fn put_head<F: Shelf>(out: &mut Out, files: &mut F, cuts: &[RowCut]) -> Result<(
     requires allowed { IsTrue (F.may_write files.old (out_name out.old)) }
     ensures named { out_name out.new ≡ out_name out.old }
     ensures frame { WritesOne F.Shelf (out_name out.old) files.old files.new }
-    ensures write_fault { result ≡ Err WalkStop.WriteFault
-        → Rose (F.write_faults files.old) (F.write_faults files.new) }
-    ensures no_fault { result ≢ Err WalkStop.ReadFault }
+    ensures stops { StopsWriting F.Shelf result files.old files.new }
 {
     put(out, files, &Item::Node)?;
     for cut in cuts {
@@ -61,9 +56,7 @@ fn put_found<F: Shelf>(out: &mut Out, files: &mut F, found: Option<Found>) -> Re
     requires allowed { IsTrue (F.may_write files.old (out_name out.old)) }
     ensures named { out_name out.new ≡ out_name out.old }
     ensures frame { WritesOne F.Shelf (out_name out.old) files.old files.new }
-    ensures write_fault { result ≡ Err WalkStop.WriteFault
-        → Rose (F.write_faults files.old) (F.write_faults files.new) }
-    ensures no_fault { result ≢ Err WalkStop.ReadFault }
+    ensures stops { StopsWriting F.Shelf result files.old files.new }
 {
     match found {
         Some(found) => put(out, files, &Item::Found(found)),
@@ -80,57 +73,21 @@ pub fn write_node<H: Hinter + Drop, G: EndGuide + Drop, F: Shelf>(
     reader: &mut LogReader,
     course: &mut Course<H, G>,
     area: &mut Area,
-    depth: u32,
 ) -> Result<(), WalkStop>
-    requires beside { CanWriteBeside (F.may_read files.old) (F.may_write files.old)
-        walk.pair.log.now (out_name course.old.out) }
-    requires walking { GoesOnWalking (F.files files.old) walk.pair.log.now reader.old
-        walk.pair.most walk.pair.rows.now course.old.going }
-    requires fits { Fits walk.pair.rows.now.program (seen area.old) }
+    requires can { CanRewrite F.Shelf files.old walk.pair reader.old course.old.going
+        course.old.out (seen area.old) }
     ensures walking { OnOk result (GoesOnWalking (F.files files.new) walk.entry.pair.log.now
         reader.new walk.entry.pair.most walk.entry.pair.rows.now course.new.going) }
     ensures as_before { OnOk result (map view_of area.new ≡ map view_of area.old) }
     ensures named { out_name course.new.out ≡ out_name course.old.out }
     ensures frame { ReadsAndWritesOne F.Shelf (out_name course.old.out) files.old files.new }
-    ensures read_fault { result ≡ Err WalkStop.ReadFault
-        → Rose (F.read_faults files.old) (F.read_faults files.new) }
-    ensures write_fault { result ≡ Err WalkStop.WriteFault
-        → Rose (F.write_faults files.old) (F.write_faults files.new) }
+    ensures stops { Stops F.Shelf result files.old files.new }
 {
     let mark = walk.pair.rows.mark(area);
-    write_entered(walk, files, reader, course, area, depth)?;
+    let mut node = enter_node(walk.alloc, walk.pair, files, reader, area)?;
+    write_below(walk, files, reader, course, area, &mut node)?;
     walk.pair.rows.back(area, mark);
     Ok(())
-}
-
-// Reads a proof over an area, where its cuts are made, and writes it.
-#[cycle(writing)]
-fn write_entered<H: Hinter + Drop, G: EndGuide + Drop, F: Shelf>(
-    walk: Walk,
-    files: &mut F,
-    reader: &mut LogReader,
-    course: &mut Course<H, G>,
-    area: &mut Area,
-    depth: u32,
-) -> Result<(), WalkStop>
-    requires beside { CanWriteBeside (F.may_read files.old) (F.may_write files.old)
-        walk.pair.log.now (out_name course.old.out) }
-    requires walking { GoesOnWalking (F.files files.old) walk.pair.log.now reader.old
-        walk.pair.most walk.pair.rows.now course.old.going }
-    requires fits { Fits walk.pair.rows.now.program (seen area.old) }
-    ensures walking { OnOk result (GoesOnWalking (F.files files.new) walk.entry.pair.log.now
-        reader.new walk.entry.pair.most walk.entry.pair.rows.now course.new.going) }
-    ensures below { OnOk result (StandsBelow walk.entry.pair.rows.now.program
-        (map view_of area.old) (map view_of area.new)) }
-    ensures named { out_name course.new.out ≡ out_name course.old.out }
-    ensures frame { ReadsAndWritesOne F.Shelf (out_name course.old.out) files.old files.new }
-    ensures read_fault { result ≡ Err WalkStop.ReadFault
-        → Rose (F.read_faults files.old) (F.read_faults files.new) }
-    ensures write_fault { result ≡ Err WalkStop.WriteFault
-        → Rose (F.write_faults files.old) (F.write_faults files.new) }
-{
-    let mut node = enter_node(walk.alloc, walk.pair, files, reader, area)?;
-    write_below(walk, files, reader, course, area, depth, &mut node)
 }
 
 // Writes a node, over an area after its cuts, and what stands below it.
@@ -141,34 +98,25 @@ fn write_below<H: Hinter + Drop, G: EndGuide + Drop, F: Shelf>(
     reader: &mut LogReader,
     course: &mut Course<H, G>,
     area: &mut Area,
-    depth: u32,
     node: &mut Node,
 ) -> Result<(), WalkStop>
-    requires beside { CanWriteBeside (F.may_read files.old) (F.may_write files.old)
-        walk.pair.log.now (out_name course.old.out) }
-    requires walking { GoesOnWalking (F.files files.old) walk.pair.log.now reader.old
-        walk.pair.most walk.pair.rows.now course.old.going }
-    requires fits { Fits walk.pair.rows.now.program (seen area.old) }
-    ensures walking { OnOk result (GoesOnWalking (F.files files.new) walk.entry.pair.log.now
-        reader.new walk.entry.pair.most walk.entry.pair.rows.now course.new.going) }
-    ensures below { OnOk result (StandsBelow walk.entry.pair.rows.now.program
-        (map view_of area.old) (map view_of area.new)) }
+    requires can { CanRewrite F.Shelf files.old walk.pair reader.old course.old.going
+        course.old.out (seen area.old) }
+    ensures walked { OnOk result (HasWalked (F.files files.new) walk.entry.pair reader.new
+        course.new.going (map view_of area.old) (map view_of area.new)) }
     ensures named { out_name course.new.out ≡ out_name course.old.out }
     ensures frame { ReadsAndWritesOne F.Shelf (out_name course.old.out) files.old files.new }
-    ensures read_fault { result ≡ Err WalkStop.ReadFault
-        → Rose (F.read_faults files.old) (F.read_faults files.new) }
-    ensures write_fault { result ≡ Err WalkStop.WriteFault
-        → Rose (F.write_faults files.old) (F.write_faults files.new) }
+    ensures stops { Stops F.Shelf result files.old files.new }
 {
     put_head(&mut course.out, files, node.cuts.as_slice())?;
-    if is_searched(walk.pair, course, area, depth, &node.end) {
+    if is_searched(walk.pair, course, area, walk.depth, &node.end) {
         let end = end_of(node);
-        return search_end(walk.pair, files, course, area, depth, end);
+        return search_end(walk.pair, files, course, area, walk.depth, end);
     }
     course.cap = greater_cap(course.cap, cap_of(walk.pair.rows, area, &node.end));
     put_found(&mut course.out, files, node.found.take())?;
     let end = item_of(end_of(node));
-    write_end(walk, files, reader, course, area, depth, &end)
+    write_end(walk, files, reader, course, area, &end)
 }
 
 // The end of a node, which is left without one.
@@ -184,31 +132,25 @@ fn write_end<H: Hinter + Drop, G: EndGuide + Drop, F: Shelf>(
     reader: &mut LogReader,
     course: &mut Course<H, G>,
     area: &mut Area,
-    depth: u32,
     end: &Item<Rows>,
 ) -> Result<(), WalkStop>
-    requires beside { CanWriteBeside (F.may_read files.old) (F.may_write files.old)
-        walk.pair.log.now (out_name course.old.out) }
-    requires walking { GoesOnWalking (F.files files.old) walk.pair.log.now reader.old
-        walk.pair.most walk.pair.rows.now course.old.going }
-    requires fits { Fits walk.pair.rows.now.program (seen area.old) }
-    ensures walking { OnOk result (GoesOnWalking (F.files files.new) walk.entry.pair.log.now
-        reader.new walk.entry.pair.most walk.entry.pair.rows.now course.new.going) }
-    ensures below { OnOk result (StandsBelow walk.entry.pair.rows.now.program
-        (map view_of area.old) (map view_of area.new)) }
+    requires can { CanRewrite F.Shelf files.old walk.pair reader.old course.old.going
+        course.old.out (seen area.old) }
+    ensures walked { OnOk result (HasWalked (F.files files.new) walk.entry.pair reader.new
+        course.new.going (map view_of area.old) (map view_of area.new)) }
     ensures named { out_name course.new.out ≡ out_name course.old.out }
     ensures frame { ReadsAndWritesOne F.Shelf (out_name course.old.out) files.old files.new }
-    ensures read_fault { result ≡ Err WalkStop.ReadFault
-        → Rose (F.read_faults files.old) (F.read_faults files.new) }
-    ensures write_fault { result ≡ Err WalkStop.WriteFault
-        → Rose (F.write_faults files.old) (F.write_faults files.new) }
+    ensures stops { Stops F.Shelf result files.old files.new }
 {
     put(&mut course.out, files, end)?;
     match end {
         Item::Split(pick, cert) => {
+            if walk.depth >= walk.pair.most {
+                return Err(WalkStop::Other);
+            }
             let floor = floor_cap(walk.pair.rows.trim(area, pick, cert));
             course.cap = greater_cap(course.cap, floor);
-            write_parts(walk, files, reader, course, area, depth, pick)
+            write_parts(walk, files, reader, course, area, pick)
         }
         Item::Point => Ok(course.going.settle(area)?),
         _ => Ok(()),
@@ -289,9 +231,7 @@ fn search_end<H: Hinter + Drop, G: EndGuide + Drop, F: Shelf>(
     ensures as_before { OnOk result (map view_of area.new ≡ map view_of area.old) }
     ensures named { out_name course.new.out ≡ out_name course.old.out }
     ensures frame { WritesOne F.Shelf (out_name course.old.out) files.old files.new }
-    ensures write_fault { result ≡ Err WalkStop.WriteFault
-        → Rose (F.write_faults files.old) (F.write_faults files.new) }
-    ensures no_fault { result ≢ Err WalkStop.ReadFault }
+    ensures stops { StopsWriting F.Shelf result files.old files.new }
 {
     let Some((cert, is_counted)) = held_of(end) else {
         return Err(WalkStop::Other);
@@ -319,36 +259,29 @@ fn write_parts<H: Hinter + Drop, G: EndGuide + Drop, F: Shelf>(
     reader: &mut LogReader,
     course: &mut Course<H, G>,
     area: &mut Area,
-    depth: u32,
     pick: &RowPick,
 ) -> Result<(), WalkStop>
-    requires beside { CanWriteBeside (F.may_read files.old) (F.may_write files.old)
-        walk.pair.log.now (out_name course.old.out) }
-    requires walking { GoesOnWalking (F.files files.old) walk.pair.log.now reader.old
-        walk.pair.most walk.pair.rows.now course.old.going }
-    requires fits { Fits walk.pair.rows.now.program (seen area.old) }
-    ensures walking { OnOk result (GoesOnWalking (F.files files.new) walk.entry.pair.log.now
-        reader.new walk.entry.pair.most walk.entry.pair.rows.now course.new.going) }
-    ensures below { OnOk result (StandsBelow walk.entry.pair.rows.now.program
-        (map view_of area.old) (map view_of area.new)) }
+    requires can { CanRewrite F.Shelf files.old walk.pair reader.old course.old.going
+        course.old.out (seen area.old) }
+    requires depth { walk.depth < walk.pair.most }
+    ensures walked { OnOk result (HasWalked (F.files files.new) walk.entry.pair reader.new
+        course.new.going (map view_of area.old) (map view_of area.new)) }
     ensures named { out_name course.new.out ≡ out_name course.old.out }
     ensures frame { ReadsAndWritesOne F.Shelf (out_name course.old.out) files.old files.new }
-    ensures read_fault { result ≡ Err WalkStop.ReadFault
-        → Rose (F.read_faults files.old) (F.read_faults files.new) }
-    ensures write_fault { result ≡ Err WalkStop.WriteFault
-        → Rose (F.write_faults files.old) (F.write_faults files.new) }
+    ensures stops { Stops F.Shelf result files.old files.new }
 {
-    if depth >= walk.pair.most {
-        return Err(WalkStop::Other);
-    }
+    let deeper = Walk {
+        depth: walk.depth + 1,
+        ..walk
+    };
     let mark = walk.pair.rows.mark(area);
     if !walk.pair.rows.left(area, pick) {
         return Err(WalkStop::Other);
     }
-    write_node(walk, files, reader, course, area, depth + 1)?;
+    write_node(deeper, files, reader, course, area)?;
     walk.pair.rows.back(area, mark);
     if !walk.pair.rows.right(area, pick) {
         return Err(WalkStop::Other);
     }
-    write_node(walk, files, reader, course, area, depth + 1)
+    write_node(deeper, files, reader, course, area)
 }

@@ -115,30 +115,40 @@ fn round(
     }
     match without_slack(alloc, cut, &bound, history)? {
         None => Ok(None),
-        Some(thin) => {
-            let Bound {
-                point,
-                mixes,
-                basis,
-                ..
-            } = bound;
-            progress.basis = basis;
-            let found = separated(
-                alloc,
-                &thin,
-                point,
-                mixes,
-                windows,
-                progress.wide,
-                &mut progress.work,
-            )?;
-            if found.is_empty() {
-                return Ok(if progress.widens() { Some(thin) } else { None });
-            }
-            let next = with_rows(alloc, thin, found, history)?;
-            Ok(Some(next))
-        }
+        Some(thin) => with_found(alloc, thin, bound, windows, progress, history),
     }
+}
+
+// A program without slack rows with those that are found; None after the last round.
+fn with_found(
+    alloc: Global,
+    thin: Program,
+    bound: Bound,
+    windows: &[Window],
+    progress: &mut Progress,
+    history: &mut History,
+) -> Result<Option<Program>, AllocError> {
+    let Bound {
+        point,
+        mixes,
+        basis,
+        ..
+    } = bound;
+    progress.basis = basis;
+    let found = separated(
+        alloc,
+        &thin,
+        point,
+        mixes,
+        windows,
+        progress.wide,
+        &mut progress.work,
+    )?;
+    if found.is_empty() {
+        return Ok(if progress.widens() { Some(thin) } else { None });
+    }
+    let next = with_rows(alloc, thin, found, history)?;
+    Ok(Some(next))
 }
 
 impl Progress {

@@ -95,10 +95,10 @@ pub record SoundRun (plant : Plant) (run : Run) : Type 0 where
   pub most : run.max ≤ 255
   pub cost : unsigned_abs run.cost ≤ 1000000
 
--- the batch that held a unit last is of a task that is there, and ends from 96 periods before the begin to the horizon
+-- the batch that held a unit last is of a task that is there, and ends from 336 periods before the begin to the horizon
 pub record SoundLast (plant : Plant) (last : Last) : Type 0 where
   pub task : last.task < length plant.tasks
-  pub early : negsuc 95 ≤ℤ last.until
+  pub early : negsuc 335 ≤ℤ last.until
   pub late : last.until ≤ℤ pos plant.periods
 
 -- a unit has a name, and keeps the ranges of the batch that held it last

@@ -89,7 +89,7 @@ pub const MAX_GAP: u32 = 336;
 pub const SMALL_GAP: u32 = 96;
 
 /// The earliest time at which the batch that held a unit last ends.
-pub const MIN_UNTIL: i32 = -96;
+pub const MIN_UNTIL: i32 = -336;
 
 /// The longest name, in bytes.
 pub const MAX_NAME: usize = 32;
@@ -124,7 +124,7 @@ pub fn limits_hold()
     ensures delay { MAX_DELAY ≡ 96 }
     ensures gap { MAX_GAP ≡ 336 }
     ensures small_gap { SMALL_GAP ≡ 96 }
-    ensures until { MIN_UNTIL ≡ negsuc 95 }
+    ensures until { MIN_UNTIL ≡ negsuc 335 }
     ensures name { MAX_NAME ≡ 32 }
 {}
 

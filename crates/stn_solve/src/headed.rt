@@ -1,15 +1,12 @@
 //! Planning over the rows of a part of a plant's choices with what the head of its log declares.
 ghost use Rattle.std.specs.Prelude.{◌≡◌, ◌≤◌, ℕ, true, None, Err, IsTrue, IfOk, OnErr};
 ghost use Rattle.stn_edge.specs.Count.{Rose};
-ghost use Rattle.stn_model.specs.Sound.{Sound};
-ghost use Rattle.row_set.specs.Parts.{IsPartOf};
-ghost use Rattle.sum_slots.specs.Shown.{AreRanges};
+ghost use Rattle.store_frames.specs.Frames.{WritesOne};
 ghost use Rattle.sum_choice.specs.Headed.{is_headed};
-ghost use Rattle.proof_log.specs.Writer.{KeepsOthers};
 ghost use Rattle.plan_told.specs.Outcomes.{IsPartOutcome};
 ghost use Rattle.plan_told.specs.Proofs.{HasProof, LeavesSomeBegun, bytes_in};
 ghost use Rattle.stn_solve.specs.Begun.{EarnsPoint};
-ghost use Rattle.logged_search.specs.Logging.{stored};
+ghost use Rattle.stn_solve.specs.laws.Telling.{CanPlanHeaded};
 
 use crate::beginning::{Beginning, begun_at};
 use crate::planning::{plan_over, solve_over};
@@ -29,11 +26,7 @@ pub fn plan_headed<A: Advisers>(
     budget: u32,
     start: &[u8],
 ) -> Result<Outcome, AllocError>
-    requires sound { Sound plant.now }
-    requires part { IsPartOf plant.now part }
-    requires ranges { AreRanges part judged }
-    requires many { is_headed part 0 ≡ true }
-    requires budget { (1 ≤ budget) × (budget ≤ 100000) }
+    requires { CanPlanHeaded plant.now part judged budget }
     ensures outcome { IfOk result (IsPartOutcome plant.now part budget) }
     ensures proof { (levels : ℕ) → is_headed part levels ≡ true
         → IfOk result (HasProof plant.now part judged levels None) }
@@ -59,11 +52,7 @@ pub fn solve_headed_to<A: Advisers, F: Shelf>(
     files: &mut F,
     name: &str,
 ) -> Result<Outcome, Stop>
-    requires sound { Sound plant.now }
-    requires part { IsPartOf plant.now part }
-    requires ranges { AreRanges part judged }
-    requires many { is_headed part 0 ≡ true }
-    requires budget { (1 ≤ budget) × (budget ≤ 100000) }
+    requires can { CanPlanHeaded plant.now part judged budget }
     requires allowed { IsTrue (F.may_write files.old name.now) }
     ensures outcome { IfOk result (IsPartOutcome plant.now part budget) }
     ensures proof { (levels : ℕ) → is_headed part levels ≡ true → IfOk result
@@ -72,10 +61,7 @@ pub fn solve_headed_to<A: Advisers, F: Shelf>(
     ensures err { (levels : ℕ) → is_headed part levels ≡ true
         → OnErr result (LeavesSomeBegun plant.now part judged levels name.now
         (F.files files.old) (F.files files.new)) }
-    ensures kept { KeepsOthers
-        (stored F.files F.read_faults F.may_read F.may_write name.now files.old)
-        (stored F.files F.read_faults F.may_read F.may_write name.now files.new) }
-    ensures later { F.write_faults files.old ≤ F.write_faults files.new }
+    ensures frame { WritesOne F.Shelf name.now files.old files.new }
     ensures failed { result ≡ Err Stop.Failed
         → Rose (F.write_faults files.old) (F.write_faults files.new) }
 {

@@ -1,6 +1,7 @@
 //! Planning over the own program of a part of a plant's choices, without a head.
 ghost use Rattle.std.specs.Prelude.{◌≡◌, ◌≤◌, ℕ, false, List, ◌∷◌, [], length, None, Err, IsTrue, IfOk, OnErr};
 ghost use Rattle.stn_edge.specs.Count.{Rose};
+ghost use Rattle.store_frames.specs.Frames.{WritesOne};
 ghost use Rattle.stn_model.specs.Sound.{Sound};
 ghost use Rattle.proof_tree.specs.Tree.{tree_of};
 ghost use Rattle.row_kit.specs.declared.domain.Domain.{Domain};
@@ -8,11 +9,9 @@ ghost use Rattle.row_set.specs.Parts.{IsPartOf};
 ghost use Rattle.sum_choice.specs.Headed.{is_headed};
 ghost use Rattle.log_lines.specs.declared.line.Line.{Line};
 ghost use Rattle.proof_log.specs.Log.{lines_text};
-ghost use Rattle.proof_log.specs.Writer.{KeepsOthers};
 ghost use Rattle.plan_told.specs.Outcomes.{IsPartOutcome};
 ghost use Rattle.stn_solve.specs.Begun.{EarnsPoint};
 ghost use Rattle.plan_told.specs.Proofs.{HasProof, LeavesSomeBegun, IsProofOf, bytes_in, claim_of};
-ghost use Rattle.logged_search.specs.Logging.{stored};
 
 use crate::solved::Solved;
 use box_advice::Advisers;
@@ -121,10 +120,7 @@ pub fn solve_plain_to<A: Advisers, F: Shelf>(
     ensures err { (judged : List Domain) (levels : ℕ) → is_headed rows.now.program levels ≡ false
         → OnErr result (LeavesSomeBegun plant.now rows.now.program judged levels name.now
         (F.files files.old) (F.files files.new)) }
-    ensures kept { KeepsOthers
-        (stored F.files F.read_faults F.may_read F.may_write name.now files.old)
-        (stored F.files F.read_faults F.may_read F.may_write name.now files.new) }
-    ensures later { F.write_faults files.old ≤ F.write_faults files.new }
+    ensures frame { WritesOne F.Shelf name.now files.old files.new }
     ensures failed { result ≡ Err Stop.Failed
         → Rose (F.write_faults files.old) (F.write_faults files.new) }
 {

@@ -1,13 +1,11 @@
 //! Planning over the rows of a part with a head, beginning with a point.
 ghost use Rattle.std.specs.Prelude.{◌≡◌, ◌≤◌, true, None, Err, IsTrue, IfOk, OnErr};
 ghost use Rattle.stn_edge.specs.Count.{Rose};
+ghost use Rattle.store_frames.specs.Frames.{WritesOne};
 ghost use Rattle.stn_model.specs.Points.{depth_limit};
-ghost use Rattle.stn_model.specs.Sound.{Sound};
-ghost use Rattle.row_relax.specs.Choices.{HaveImages};
-ghost use Rattle.proof_log.specs.Writer.{KeepsOthers};
 ghost use Rattle.plan_told.specs.Proofs.{bytes_in};
-ghost use Rattle.logged_search.specs.Logging.{HasFewSplits, LeavesBegun, stored};
-ghost use Rattle.stn_solve.specs.laws.Telling.{CanBeTold, IsToldOver};
+ghost use Rattle.logged_search.specs.Logging.{LeavesBegun};
+ghost use Rattle.stn_solve.specs.laws.Telling.{CanPlanOver, IsToldOver};
 
 use crate::telling::{told_given, told_larger};
 use box_advice::Advisers;
@@ -28,11 +26,7 @@ pub fn plan_over<A: Advisers>(
     budget: u32,
     point: &[u8],
 ) -> Result<Outcome, AllocError>
-    requires sound { Sound plant.now }
-    requires images { HaveImages headed.now.rows }
-    requires splits { HasFewSplits (depth_limit plant.now) headed.now.rows.program }
-    requires budget { (1 ≤ budget) × (budget ≤ 100000) }
-    requires told { CanBeTold plant.now headed.now least budget }
+    requires { CanPlanOver plant.now headed.now least budget }
     ensures { IfOk result (IsToldOver plant.now headed.now least budget point.now None) }
 {
     let rules = SplitRules {
@@ -56,20 +50,13 @@ pub fn solve_over<A: Advisers, F: Shelf>(
     files: &mut F,
     name: &str,
 ) -> Result<Outcome, Stop>
-    requires sound { Sound plant.now }
-    requires images { HaveImages headed.now.rows }
-    requires splits { HasFewSplits (depth_limit plant.now) headed.now.rows.program }
-    requires budget { (1 ≤ budget) × (budget ≤ 100000) }
-    requires told { CanBeTold plant.now headed.now least budget }
+    requires can { CanPlanOver plant.now headed.now least budget }
     requires allowed { IsTrue (F.may_write files.old name.now) }
     ensures told { IfOk result (IsToldOver plant.now headed.now least budget point.now
         (bytes_in name.now (F.files files.new))) }
     ensures err { OnErr result (LeavesBegun (depth_limit plant.now) headed.now.rows true
         headed.now.head.items name.now (F.files files.old) (F.files files.new)) }
-    ensures kept { KeepsOthers
-        (stored F.files F.read_faults F.may_read F.may_write name.now files.old)
-        (stored F.files F.read_faults F.may_read F.may_write name.now files.new) }
-    ensures later { F.write_faults files.old ≤ F.write_faults files.new }
+    ensures frame { WritesOne F.Shelf name.now files.old files.new }
     ensures failed { result ≡ Err Stop.Failed
         → Rose (F.write_faults files.old) (F.write_faults files.new) }
 {

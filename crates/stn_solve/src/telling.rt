@@ -1,12 +1,10 @@
 //! What the end of a search over the rows of a head says of the part.
-ghost use Rattle.std.specs.Prelude.{◌≡◌, length, IfOk, IfSome};
-ghost use Rattle.stn_model.specs.Sound.{Sound};
-ghost use Rattle.time_grid.specs.Slots.{slots};
+ghost use Rattle.std.specs.Prelude.{IfOk};
 ghost use Rattle.plan_told.specs.Claims.{HaveBytes, IfPoint};
 ghost use Rattle.plan_told.specs.Given.{given_end};
 ghost use Rattle.plan_told.specs.Telling.{IsTold};
 ghost use Rattle.plan_told.specs.declared.telling.Told.{Told};
-ghost use Rattle.stn_solve.specs.laws.Telling.{IsToldLarger};
+ghost use Rattle.stn_solve.specs.laws.Telling.{CanTell, IsToldLarger};
 
 use branch_tree::Ended;
 use plan_told::{Told, given_ended, larger_claim, told_of};
@@ -23,9 +21,7 @@ pub fn told_given(
     least: Option<Found>,
     ended: Ended,
 ) -> Result<Told, AllocError>
-    requires sound { Sound plant.now }
-    requires places { IfSome (given_end given least ended).best
-        (λ found. length found.point ≡ length (slots plant.now)) }
+    requires { CanTell plant.now (given_end given least ended) }
     ensures { IfOk result (IsTold plant.now (given_end given least ended)) }
 {
     let own = given_ended(alloc, given as usize, least, ended)?;
@@ -41,9 +37,7 @@ pub fn told_larger(
     least: Option<Found>,
     ended: Ended,
 ) -> Result<Told, AllocError>
-    requires sound { Sound plant.now }
-    requires places { IfSome (given_end given least ended).best
-        (λ found. length found.point ≡ length (slots plant.now)) }
+    requires can { CanTell plant.now (given_end given least ended) }
     requires bytes { (told : Told) → IsTold plant.now (given_end given least ended) told
         → IfPoint told.claim (HaveBytes sums.now) }
     ensures { IfOk result (IsToldLarger plant.now sums.now (given_end given least ended)) }

@@ -6,7 +6,7 @@ use Rattle.std.specs.FinMap.{get}
 use Rattle.std.proofs.lemmas.Fmt.{decimal_injective}
 use Rattle.stn_edge.specs.Files.{FileMap, OthersStay}
 use Rattle.least_horizon.specs.LogNames.{OthersStayBelow}
-use Rattle.command_words.specs.Words.{Request, Solving, Logging, Simulating, Checking, Telling, Numbering, Upgrading, Showing, Replanning, ReplanLogging, CheckingReplan, Improving, Estimating, Seeking, Tracing, Auditing, Parting, PartSolving, Joining, Resuming, Merging, Says, Conflicting, ConflictLogging, CheckingConflict, use_word}
+use Rattle.command_words.specs.Words.{Request, Solving, Logging, Simulating, Checking, Telling, Numbering, Upgrading, Showing, Replanning, ReplanLogging, CheckingReplan, Rolling, Improving, Estimating, Seeking, Tracing, Auditing, Parting, PartSolving, Joining, Resuming, Merging, Says, Conflicting, ConflictLogging, CheckingConflict, use_word}
 use Rattle.command_words.specs.declared.command.PlanUse.{PlanUse}
 use Rattle.command_words.specs.declared.command.PlanUse.TheVariants.{Simulate, Report, Picture, Table, Violations}
 use Rattle.planning_commands.specs.NamedLog.{LogLeft}
@@ -38,6 +38,7 @@ left_same (ReplanLogging plant plan period budget log) old new same = inl same
 left_same (CheckingReplan plant plan period log) old new same = same
 left_same (Improving plant plan budget None) old new same = same
 left_same (Improving plant plan budget (Some log)) old new same = inl same
+left_same (Rolling plant plan period rest) old new same = same
 left_same (Estimating plant log state step count) old new same = same
 left_same (Seeking plant budget) old new same = same
 left_same (Tracing plant budget stem) old new same = inl same
@@ -135,6 +136,7 @@ leaves_log words plant budget log (Replanning plant2 plan2 period2 budget2) old 
 leaves_log words plant budget log (ReplanLogging plant2 plan2 period2 budget2 log2) old new says also is = (let same = ap length (sym says.1.0 ∙ also.1.1.0) in absurd (omega (arith, same)))
 leaves_log words plant budget log (CheckingReplan plant2 plan2 period2 log2) old new says also is = (let same = ap length (sym says.1.0 ∙ also.1.0) in absurd (omega (arith, same)))
 leaves_log words plant budget log (Improving plant2 plan2 budget2 log2) old new says also is = (let same = ap first_byte (sym says.1.0 ∙ also.1.0) in absurd (omega (arith, same)))
+leaves_log words plant budget log (Rolling plant2 plan2 period2 rest2) old new says also is = (let same = ap first_length (sym says.1.0 ∙ also.1.0) in absurd (omega (arith, same)))
 leaves_log words plant budget log (Estimating plant2 log2 state step count) old new says also is = (let same = ap length (sym says.1.0 ∙ also.1.1.0) in absurd (omega (arith, same)))
 leaves_log words plant budget log (Seeking plant2 budget2) old new says also is = (let same = ap length (sym says.1.0 ∙ also.1.0) in absurd (omega (arith, same)))
 leaves_log words plant budget log (Tracing plant2 budget2 stem2) old new says also is = (let same = ap first_byte (sym says.1.0 ∙ also.1.0) in absurd (omega (arith, same)))
@@ -179,6 +181,7 @@ leaves_replan words plant plan period budget log (CheckingConflict plant2 stem2)
 leaves_replan words plant plan period budget log (Parting plant2 levels2) old new says also is = (let same = ap length (sym says.1.1.0 ∙ also.1.0) in absurd (omega (arith, same)))
 leaves_replan words plant plan period budget log (PartSolving plant2 levels2 part2 budget2 log2) old new says also is = (let same = ap first_byte (sym says.1.1.0 ∙ also.1.1.1.0) in absurd (omega (arith, same)))
 leaves_replan words plant plan period budget log (Joining plant2 levels2 stem2 log2) old new says also is = (let same = ap length (sym says.1.1.0 ∙ also.1.0) in absurd (omega (arith, same)))
+leaves_replan words plant plan period budget log (Rolling plant2 plan2 period2 rest2) old new says also is = (let same = ap first_length (sym says.1.1.0 ∙ also.1.0) in absurd (omega (arith, same)))
 leaves_replan words plant plan period budget log (Estimating plant2 log2 state step count) old new says also is =
     let first : 114 ≡ 119 = ap (λ (ws : List (List ℕ)). get_or (get_or ws 0 []) 0 0) (sym says.1.1.0 ∙ also.1.1.0) in absurd (omega (arith, first))
 leaves_replan words plant plan period budget log (ReplanLogging plant2 plan2 period2 budget2 log2) old new says also is =
@@ -211,6 +214,7 @@ leaves_logs words plant budget stem (Replanning plant2 plan2 period2 budget2) ol
 leaves_logs words plant budget stem (ReplanLogging plant2 plan2 period2 budget2 log2) old new says also is = (let same = ap length (sym says.1.0 ∙ also.1.1.0) in absurd (omega (arith, same)))
 leaves_logs words plant budget stem (CheckingReplan plant2 plan2 period2 log2) old new says also is = (let same = ap length (sym says.1.0 ∙ also.1.0) in absurd (omega (arith, same)))
 leaves_logs words plant budget stem (Improving plant2 plan2 budget2 log2) old new says also is = (let same = ap first_byte (sym says.1.0 ∙ also.1.0) in absurd (omega (arith, same)))
+leaves_logs words plant budget stem (Rolling plant2 plan2 period2 rest2) old new says also is = (let same = ap first_length (sym says.1.0 ∙ also.1.0) in absurd (omega (arith, same)))
 leaves_logs words plant budget stem (Estimating plant2 log2 state step count) old new says also is = (let same = ap length (sym says.1.0 ∙ also.1.1.0) in absurd (omega (arith, same)))
 leaves_logs words plant budget stem (Seeking plant2 budget2) old new says also is = (let same = ap length (sym says.1.0 ∙ also.1.0) in absurd (omega (arith, same)))
 leaves_logs words plant budget stem (Auditing plant2 horizon2 stem2) old new says also is = (let same = ap first_byte (sym says.1.0 ∙ also.1.0) in absurd (omega (arith, same)))
@@ -250,6 +254,7 @@ leaves_conflict words plant budget stem (Replanning plant2 plan2 period2 budget2
 leaves_conflict words plant budget stem (ReplanLogging plant2 plan2 period2 budget2 log2) old new says also is = (let same = ap length (sym says.1.0 ∙ also.1.1.0) in absurd (omega (arith, same)))
 leaves_conflict words plant budget stem (CheckingReplan plant2 plan2 period2 log2) old new says also is = (let same = ap length (sym says.1.0 ∙ also.1.0) in absurd (omega (arith, same)))
 leaves_conflict words plant budget stem (Improving plant2 plan2 budget2 log2) old new says also is = (let same = ap first_byte (sym says.1.0 ∙ also.1.0) in absurd (omega (arith, same)))
+leaves_conflict words plant budget stem (Rolling plant2 plan2 period2 rest2) old new says also is = (let same = ap first_length (sym says.1.0 ∙ also.1.0) in absurd (omega (arith, same)))
 leaves_conflict words plant budget stem (Estimating plant2 log2 state step count) old new says also is = (let same = ap length (sym says.1.0 ∙ also.1.1.0) in absurd (omega (arith, same)))
 leaves_conflict words plant budget stem (Seeking plant2 budget2) old new says also is = (let same = ap length (sym says.1.0 ∙ also.1.0) in absurd (omega (arith, same)))
 leaves_conflict words plant budget stem (Auditing plant2 horizon2 stem2) old new says also is = (let same = ap first_length (sym says.1.0 ∙ also.1.0) in absurd (omega (arith, same)))
@@ -289,6 +294,7 @@ leaves_part words plant levels part budget log (Replanning plant2 plan2 period2 
 leaves_part words plant levels part budget log (ReplanLogging plant2 plan2 period2 budget2 log2) old new says also is = (let same = ap first_byte (sym says.1.1.1.0 ∙ also.1.1.0) in absurd (omega (arith, same)))
 leaves_part words plant levels part budget log (CheckingReplan plant2 plan2 period2 log2) old new says also is = (let same = ap length (sym says.1.1.1.0 ∙ also.1.0) in absurd (omega (arith, same)))
 leaves_part words plant levels part budget log (Improving plant2 plan2 budget2 log2) old new says also is = (let same = ap first_byte (sym says.1.1.1.0 ∙ also.1.0) in absurd (omega (arith, same)))
+leaves_part words plant levels part budget log (Rolling plant2 plan2 period2 rest2) old new says also is = (let same = ap first_length (sym says.1.1.1.0 ∙ also.1.0) in absurd (omega (arith, same)))
 leaves_part words plant levels part budget log (Estimating plant2 log2 state step count) old new says also is = (let same = ap first_byte (sym says.1.1.1.0 ∙ also.1.1.0) in absurd (omega (arith, same)))
 leaves_part words plant levels part budget log (Seeking plant2 budget2) old new says also is = (let same = ap length (sym says.1.1.1.0 ∙ also.1.0) in absurd (omega (arith, same)))
 leaves_part words plant levels part budget log (Tracing plant2 budget2 stem2) old new says also is = (let same = ap length (sym says.1.1.1.0 ∙ also.1.0) in absurd (omega (arith, same)))
@@ -327,6 +333,7 @@ leaves_join words plant levels stem log (Replanning plant2 plan2 period2 budget2
 leaves_join words plant levels stem log (ReplanLogging plant2 plan2 period2 budget2 log2) old new says also is = (let same = ap length (sym says.1.0 ∙ also.1.1.0) in absurd (omega (arith, same)))
 leaves_join words plant levels stem log (CheckingReplan plant2 plan2 period2 log2) old new says also is = (let same = ap first_byte (sym says.1.0 ∙ also.1.0) in absurd (omega (arith, same)))
 leaves_join words plant levels stem log (Improving plant2 plan2 budget2 log2) old new says also is = (let same = ap first_byte (sym says.1.0 ∙ also.1.0) in absurd (omega (arith, same)))
+leaves_join words plant levels stem log (Rolling plant2 plan2 period2 rest2) old new says also is = (let same = ap first_byte (sym says.1.0 ∙ also.1.0) in absurd (omega (arith, same)))
 leaves_join words plant levels stem log (Estimating plant2 log2 state step count) old new says also is = (let same = ap length (sym says.1.0 ∙ also.1.1.0) in absurd (omega (arith, same)))
 leaves_join words plant levels stem log (Seeking plant2 budget2) old new says also is = (let same = ap length (sym says.1.0 ∙ also.1.0) in absurd (omega (arith, same)))
 leaves_join words plant levels stem log (Tracing plant2 budget2 stem2) old new says also is = (let same = ap length (sym says.1.0 ∙ also.1.0) in absurd (omega (arith, same)))
@@ -362,6 +369,7 @@ leaves_improve words plant plan budget log (Showing seed) old new says also is =
 leaves_improve words plant plan budget log (Replanning plant2 plan2 period2 budget2) old new says also is = (let same = ap first_byte (sym says.1.0 ∙ also.1.1.0) in absurd (omega (arith, same)))
 leaves_improve words plant plan budget log (ReplanLogging plant2 plan2 period2 budget2 log2) old new says also is = (let same = ap first_byte (sym says.1.0 ∙ also.1.1.0) in absurd (omega (arith, same)))
 leaves_improve words plant plan budget log (CheckingReplan plant2 plan2 period2 log2) old new says also is = (let same = ap first_byte (sym says.1.0 ∙ also.1.0) in absurd (omega (arith, same)))
+leaves_improve words plant plan budget log (Rolling plant2 plan2 period2 rest2) old new says also is = (let same = ap first_length (sym says.1.0 ∙ also.1.0) in absurd (omega (arith, same)))
 leaves_improve words plant plan budget log (Estimating plant2 log2 state step count) old new says also is = (let same = ap first_byte (sym says.1.0 ∙ also.1.1.0) in absurd (omega (arith, same)))
 leaves_improve words plant plan budget log (Seeking plant2 budget2) old new says also is = (let same = ap first_byte (sym says.1.0 ∙ also.1.0) in absurd (omega (arith, same)))
 leaves_improve words plant plan budget log (Tracing plant2 budget2 stem2) old new says also is = (let same = ap first_byte (sym says.1.0 ∙ also.1.0) in absurd (omega (arith, same)))
@@ -397,6 +405,7 @@ leaves_resume words plant log budget out share (Replanning plant2 plan2 period2 
 leaves_resume words plant log budget out share (ReplanLogging plant2 plan2 period2 budget2 log2) old new says also is = (let same = ap third_byte (sym says.1.1.0 ∙ also.1.1.0) in absurd (omega (arith, same)))
 leaves_resume words plant log budget out share (CheckingReplan plant2 plan2 period2 log2) old new says also is = (let same = ap third_byte (sym says.1.1.0 ∙ also.1.0) in absurd (omega (arith, same)))
 leaves_resume words plant log budget out share (Improving plant2 plan2 budget2 log2) old new says also is = (let same = ap third_byte (sym says.1.1.0 ∙ also.1.0) in absurd (omega (arith, same)))
+leaves_resume words plant log budget out share (Rolling plant2 plan2 period2 rest2) old new says also is = (let same = ap first_length (sym says.1.1.0 ∙ also.1.0) in absurd (omega (arith, same)))
 leaves_resume words plant log budget out share (Estimating plant2 log2 state step count) old new says also is = (let same = ap third_byte (sym says.1.1.0 ∙ also.1.1.0) in absurd (omega (arith, same)))
 leaves_resume words plant log budget out share (Seeking plant2 budget2) old new says also is = (let same = ap third_byte (sym says.1.1.0 ∙ also.1.0) in absurd (omega (arith, same)))
 leaves_resume words plant log budget out share (Tracing plant2 budget2 stem2) old new says also is = (let same = ap third_byte (sym says.1.1.0 ∙ also.1.0) in absurd (omega (arith, same)))
@@ -439,6 +448,7 @@ leaves_merge words plant stem count out (Replanning plant2 plan2 period2 budget2
 leaves_merge words plant stem count out (ReplanLogging plant2 plan2 period2 budget2 log2) old new says also is = (let same = ap first_byte (sym says.1.0 ∙ also.1.1.0) in absurd (omega (arith, same)))
 leaves_merge words plant stem count out (CheckingReplan plant2 plan2 period2 log2) old new says also is = (let same = ap first_byte (sym says.1.0 ∙ also.1.0) in absurd (omega (arith, same)))
 leaves_merge words plant stem count out (Improving plant2 plan2 budget2 log2) old new says also is = (let same = ap first_byte (sym says.1.0 ∙ also.1.0) in absurd (omega (arith, same)))
+leaves_merge words plant stem count out (Rolling plant2 plan2 period2 rest2) old new says also is = (let same = ap first_length (sym says.1.0 ∙ also.1.0) in absurd (omega (arith, same)))
 leaves_merge words plant stem count out (Estimating plant2 log2 state step count2) old new says also is = (let same = ap first_byte (sym says.1.0 ∙ also.1.1.0) in absurd (omega (arith, same)))
 leaves_merge words plant stem count out (Seeking plant2 budget2) old new says also is = (let same = ap first_byte (sym says.1.0 ∙ also.1.0) in absurd (omega (arith, same)))
 leaves_merge words plant stem count out (Tracing plant2 budget2 stem2) old new says also is = (let same = ap first_byte (sym says.1.0 ∙ also.1.0) in absurd (omega (arith, same)))
@@ -476,6 +486,7 @@ leaves words (ReplanLogging plant plan period budget log) other old new says als
 leaves words (CheckingReplan plant plan period log) other old new says also is = leaves_same other old new is.left
 leaves words (Improving plant plan budget None) other old new says also is = leaves_same other old new is.left
 leaves words (Improving plant plan budget (Some log)) other old new says also is = leaves_improve words plant plan budget log other old new says also is
+leaves words (Rolling plant plan period rest) other old new says also is = leaves_same other old new is.left
 leaves words (Estimating plant log state step count) other old new says also is = leaves_same other old new is.left
 leaves words (Seeking plant budget) other old new says also is = leaves_same other old new is.left
 leaves words (Tracing plant budget stem) other old new says also is = leaves_logs words plant budget stem other old new says also is

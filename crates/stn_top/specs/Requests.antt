@@ -11,12 +11,13 @@ use Rattle.plan_told.specs.Proofs.{bytes_in}
 use Rattle.least_horizon.specs.LogNames.{logs_in, OthersStayBelow}
 use Rattle.time_grid.specs.Slots.{slots}
 use Rattle.log_parts.specs.PartLogs.{AllAreValid}
-use Rattle.command_words.specs.Words.{Request, IsNoPartLog, Solving, Logging, Simulating, Checking, Telling, Numbering, Upgrading, Showing, Replanning, ReplanLogging, CheckingReplan, Improving, Estimating, Seeking, Tracing, Auditing, Parting, PartSolving, Joining, Resuming, Merging, log_words, Conflicting, ConflictLogging, CheckingConflict}
+use Rattle.command_words.specs.Words.{Request, IsNoPartLog, Solving, Logging, Simulating, Checking, Telling, Numbering, Upgrading, Showing, Replanning, ReplanLogging, CheckingReplan, Rolling, Improving, Estimating, Seeking, Tracing, Auditing, Parting, PartSolving, Joining, Resuming, Merging, log_words, Conflicting, ConflictLogging, CheckingConflict}
 use Rattle.command_replies.specs.Answers.{IsAnswerOver, content}
 use Rattle.command_replies.specs.Sources.{IsReadOf, OnPlant, OnPlan}
 use Rattle.answer_texts.specs.Levels.{OnLevels}
 use Rattle.answer_texts.specs.Simulation.{Simulated}
 use Rattle.plan_commands.specs.Upgrading.{Upgraded}
+use Rattle.plan_commands.specs.Rolling.{Rolled}
 use Rattle.log_commands.specs.Checking.{Checked}
 use Rattle.listing_commands.specs.Showing.{PlanShown}
 use Rattle.listing_commands.specs.Numbering.{Numbered}
@@ -56,6 +57,7 @@ read_names (Showing seed) = []
 read_names (Replanning plant plan period budget) = plant ∷ plan ∷ []
 read_names (ReplanLogging plant plan period budget log) = plant ∷ plan ∷ []
 read_names (CheckingReplan plant plan period log) = plant ∷ plan ∷ log ∷ []
+read_names (Rolling plant plan period rest) = plant ∷ plan ∷ []
 read_names (Improving plant plan budget log) = plant ∷ plan ∷ []
 read_names (Estimating plant log state step count) = plant ∷ log ∷ []
 read_names (Seeking plant budget) = plant ∷ []
@@ -84,6 +86,7 @@ written_names (Showing seed) = []
 written_names (Replanning plant plan period budget) = []
 written_names (ReplanLogging plant plan period budget log) = log ∷ []
 written_names (CheckingReplan plant plan period log) = []
+written_names (Rolling plant plan period rest) = []
 written_names (Improving plant plan budget log) = log_words log
 written_names (Estimating plant log state step count) = []
 written_names (Seeking plant budget) = []
@@ -129,6 +132,8 @@ AnswersTo old new contents (ReplanLogging plant plan period budget log) status t
     OnPlant (reading (content contents 0)) (λ p. OnPlan (plan_of_text p (content contents 1)) (λ starts. Replanned budget p period starts (bytes_in log new) (new ≡ old))) status text
 AnswersTo old new contents (CheckingReplan plant plan period log) status text =
     OnPlant (reading (content contents 0)) (λ p. OnPlan (plan_of_text p (content contents 1)) (λ starts. ReplanChecked (bytes_in log old) p period (kept_starts period starts) (new ≡ old))) status text
+AnswersTo old new contents (Rolling plant plan period rest) status text =
+    OnPlant (reading (content contents 0)) (λ p. OnPlan (plan_of_text p (content contents 1)) (Rolled rest period p)) status text
 AnswersTo old new contents (Improving plant plan budget log) status text =
     OnPlant (reading (content contents 0)) (λ p. OnPlan (plan_of_text p (content contents 1)) (λ starts. Improved budget p starts (told_log log new) (new ≡ old))) status text
 AnswersTo old new contents (Estimating plant log state step count) status text = OnPlant (reading (content contents 0)) (Estimated state step count (content contents 1)) status text
@@ -165,6 +170,7 @@ IsLeft (Showing seed) old new = new ≡ old
 IsLeft (Replanning plant plan period budget) old new = new ≡ old
 IsLeft (ReplanLogging plant plan period budget log) old new = (new ≡ old) ⊎ HoldsOn old new plant plan (Some period) log
 IsLeft (CheckingReplan plant plan period log) old new = new ≡ old
+IsLeft (Rolling plant plan period rest) old new = new ≡ old
 IsLeft (Improving plant plan budget log) old new = LogLeft log (λ name. (new ≡ old) ⊎ HoldsOn old new plant plan None name) old new
 IsLeft (Estimating plant log state step count) old new = new ≡ old
 IsLeft (Seeking plant budget) old new = new ≡ old
@@ -193,6 +199,7 @@ GetsToWriting files (Showing seed) = ⊥
 GetsToWriting files (Replanning plant plan period budget) = ⊥
 GetsToWriting files (ReplanLogging plant plan period budget log) = CanBePlanned files plant plan (Some period)
 GetsToWriting files (CheckingReplan plant plan period log) = ⊥
+GetsToWriting files (Rolling plant plan period rest) = ⊥
 GetsToWriting files (Improving plant plan budget log) = (log ≢ None) × CanBePlanned files plant plan None
 GetsToWriting files (Estimating plant log state step count) = ⊥
 GetsToWriting files (Seeking plant budget) = ⊥

@@ -20,7 +20,7 @@ use horizon_commands::{audit_file, seek_file, trace_file};
 use listing_commands::{list_file, show_file};
 use log_commands::{check_file, check_replan_file};
 use part_commands::{join_file, parts_file};
-use plan_commands::{simulate_file, upgrade_file};
+use plan_commands::{roll_file, simulate_file, upgrade_file};
 use planning_commands::{plan_on_file, solve_file, solve_part_file};
 use resume_commands::{merge_files, resume_file};
 use std::alloc::Global;
@@ -42,12 +42,14 @@ use tank_commands::estimate_file;
 /// | `check PLANT LOG` | checks a proof log, and says its claim or its first defect |
 /// | `plan PLANT LOG` | prints the plan that a proof log claims, as a plan file, or the log's first defect |
 /// | `slots PLANT` | prints the slots and the rows of the plant's program by number |
-/// | `upgrade PLANT` | prints the plant as a plant file of version 2 |
+/// | `upgrade PLANT` | prints the plant as a plant file: of version 3 where it is of version 3, else of version 2 |
 /// | `demo SEED` | makes a plant of the seed, plans it with 500 boxes, and checks the log; no file is touched |
 /// | `replan PLANT PLAN PERIOD BUDGET` | keeps the starts of the plan before the period, and plans what comes after as `solve` does; where one of them does not fit or two meet, says so |
 /// | `replan PLANT PLAN PERIOD BUDGET LOG` | the same, and writes the log of the proof; LOG is neither the word PLANT nor PLAN |
 /// | `improve PLANT PLAN BUDGET` | plans as `solve` does, and begins with the plan, so that the answer earns no less; where the plan is not feasible, says what it breaks first |
 /// | `improve PLANT PLAN BUDGET LOG` | the same, and writes the log of the proof; LOG is neither the word PLANT nor PLAN |
+/// | `roll PLANT PLAN PERIOD` | prints the plant from the period on, where the starts of the plan before it have been carried out, as a plant file of version 3, behind a line on what was earned before; where those starts break something that no later start mends, says what they break first |
+/// | `roll PLANT PLAN PERIOD plan` | the same, but prints the starts of the plan from the period on, as a plan file of that plant |
 /// | `check-replan PLANT PLAN PERIOD LOG` | checks the proof log of such a planning, and says its claim or its first defect |
 /// | `whatif PLANT LOG STATE STEP COUNT` | says by an old log, without a search, what no plan earns more than where the limits of the state are raised by no step, by one, and so on, and what the log's plan then comes to |
 /// | `least PLANT BUDGET` | finds the least horizon within which all deliveries can be met, with at most BUDGET boxes for each |
@@ -63,8 +65,8 @@ use tank_commands::estimate_file;
 /// | `resume PLANT LOG BUDGET OUT SHARE SHARES` | the same, at the open ends alone whose number leaves the rest SHARE when it is divided by SHARES (1 to 256) |
 /// | `merge PLANT STEM COUNT OUT` | checks COUNT logs (1 to 256), STEM.0, STEM.1 and so on, and writes the log that is merged of them, or says what speaks against the first that is not valid; OUT is neither the word PLANT nor the name of one of STEM.0 to STEM.255 |
 ///
-/// Statuses: 0 optimal, feasible, reported, upgraded, valid, estimated, listed, joined or merged; 1 no plan is feasible, the plan is not or what is kept of it can't be, or a log is not valid; 2 the words have no
-/// form; 3 the plant file has a fault; 4 the plan file has one; 5 STATE is not the name of a state with limits, or the plant has fewer slots than LEVELS; 6 the budget was spent; 7 a file could not be
+/// Statuses: 0 optimal, feasible, reported, upgraded, rolled, valid, estimated, listed, joined or merged; 1 no plan is feasible, the plan is not or what is kept of it can't be, or a log is not valid; 2 the words have no
+/// form; 3 the plant file has a fault; 4 the plan file has one; 5 STATE is not the name of a state with limits, the plant has fewer slots than LEVELS, PERIOD is not before the horizon, or a rolled plant would have more than 900 receipts; 6 the budget was spent; 7 a file could not be
 /// read; 8 the log could not be written or the answer could not be put; 9 no memory, or the log that `resume` or `merge` wrote does not stand its judgement. The answer is put at once, after all
 /// work. No file changes but the logs that the words name.
 pub fn run<F: Shelf, K: Sink>(alloc: Global, words: &[&str], files: &mut F, out: &mut K) -> u8
@@ -242,6 +244,12 @@ fn reply_to<F: Shelf>(alloc: Global, command: Command, files: &mut F) -> Result<
             period,
             log,
         } => check_replan_file(alloc, files, plant, plan, period, log),
+        Command::Roll {
+            plant,
+            plan,
+            period,
+            rest,
+        } => roll_file(alloc, files, plant, plan, period, rest),
         Command::Improve {
             plant,
             plan,

@@ -90,10 +90,3 @@ pub record HasTree (reads : List RowItem → Type 0) (boxes : ℕ) : Type 0 wher
   pub tree : RowTree
   pub read : reads (tree_items tree)
   pub counts : boxes ≡ counted tree
-
--- both parts of a split were read, and so many boxes are counted with that of the split
-pub record HasParts (reads : List RowItem → Type 0) (boxes : ℕ) : Type 0 where
-  pub first : RowTree
-  pub second : RowTree
-  pub read : reads (tree_items first ++ tree_items second)
-  pub counts : boxes ≡ 1 + counted first + counted second

@@ -1,6 +1,8 @@
 -- What was written of a merged proof, and read of the logs. Only clauses of what merges cite it.
-use Rattle.std.specs.Prelude.{◌≡◌, ◌≤◌, ◌<◌, ◌+◌, ℕ, ℤ, List, ◌++◌, length, slice_get, slice_index_or, Option, Some, None, IsSomeAnd}
+use Rattle.std.specs.Prelude.{◌≡◌, ◌≤◌, ◌<◌, ◌+◌, ℕ, ℤ, List, ◌++◌, length, slice_get, slice_index_or, Option, Some, None, IsSomeAnd, IsTrue}
 use Rattle.stn_edge.specs.Files.{FileMap}
+use Rattle.stn_edge.specs.declared.shelf.Shelf.{Ghosts}
+use Rattle.row_kit.specs.declared.domain.Domain.{Domain}
 use Rattle.dual_bound.specs.declared.cert.Cert.{Cert}
 use Rattle.proof_log.specs.declared.writer.LogWriter.{LogWriter}
 use Rattle.proof_log.specs.LogNames.{log_name}
@@ -13,13 +15,28 @@ use Rattle.row_relax.specs.declared.pick.RowPick.{RowPick}
 use Rattle.row_relax.specs.declared.rows.Rows.{Rows}
 use Rattle.row_relax.specs.Choices.{steps_of}
 use Rattle.row_relax.specs.RowProofs.{RowTree}
+use Rattle.row_relax.specs.View.{Fits}
 use Rattle.log_nodes.specs.declared.node.Node.{Node}
 use Rattle.log_nodes.specs.declared.node.Ending.TheVariants.{Split}
 use Rattle.log_nodes.specs.Reading.{ReadsOn}
 use Rattle.log_nodes.specs.laws.Nodes.{node_items}
+use Rattle.merged_nodes.specs.declared.sources.Merging.{Merging}
 use Rattle.merged_nodes.specs.declared.sources.Source.{Source}
 use Rattle.merged_nodes.specs.Merged.{IsMerged}
+use Rattle.log_nodes.specs.laws.Seen.{seen}
+use Rattle.log_parts.specs.laws.Copying.{name_of}
+use Rattle.merged_nodes.specs.laws.Looked.{AreApart, AreReading, MayReadAll}
 use Rattle.merged_nodes.specs.laws.Puts.{PutsItems}
+
+-- what a walk needs to go on below so many splits: all logs may be read and are being read, the new one may be written and is none of
+-- them, the area fits the rows, and a split has room below it
+pub record CanMerge {F : Type 0} (S : Ghosts F) (merging : Merging) (files : F) (sources : List Source) (writer : LogWriter) (marks : List (List Domain)) (splits : ℕ) : Type 0 where
+  pub may_read : MayReadAll (S.may_read files) merging.stem.now sources
+  pub may_write : IsTrue (S.may_write files (name_of writer))
+  pub apart : AreApart (name_of writer) merging.stem.now sources
+  pub reading : AreReading (S.files files) merging.stem.now sources
+  pub fits : Fits merging.rows.now.program (seen marks)
+  pub depth : splits < 36865
 
 -- a log that came down below so many splits has read this proof, which stands there; one that did not has read nothing
 abbrev pub HasReadTree : Option FileMap → List ℕ → ℕ → Source → Source → Option RowTree → Type 0

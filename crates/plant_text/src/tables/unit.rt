@@ -40,7 +40,7 @@ fn last_of(task: Option<u32>, until: i32) -> Option<Last>
 // The range of the end of the batch that held a unit last; it stands alone where its task is not told.
 fn until_span(told: bool, periods: u32) -> Span
     requires { periods ≤ 336 }
-    ensures { result ≡ record { alone = not told; low = negsuc 95; high = pos periods } }
+    ensures { result ≡ record { alone = not told; low = negsuc 335; high = pos periods } }
 {
     Span {
         alone: !told,

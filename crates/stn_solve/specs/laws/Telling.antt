@@ -1,18 +1,24 @@
 -- What is told of a search over the rows of a head, as of the part.
-use Rattle.std.specs.Prelude.{◌≡◌, ℕ, true, List, [], ◌∷◌, ◌++◌, length, flat_map, Option, IfSome}
+use Rattle.std.specs.Prelude.{◌≡◌, ◌≤◌, ℕ, true, List, [], ◌∷◌, ◌++◌, length, flat_map, Option, IfSome}
 use Rattle.stn_model.specs.declared.plant.Plant.{Plant}
 use Rattle.stn_model.specs.declared.answer.Outcome.{Outcome}
 use Rattle.stn_model.specs.Points.{depth_limit}
+use Rattle.stn_model.specs.Sound.{Sound}
 use Rattle.time_grid.specs.Slots.{slots}
+use Rattle.row_kit.specs.declared.domain.Domain.{Domain}
 use Rattle.row_kit.specs.declared.found.Found.{Found}
+use Rattle.row_kit.specs.declared.program.Program.{Program}
+use Rattle.row_set.specs.Parts.{IsPartOf}
 use Rattle.proof_tree.specs.Items.{tree_items}
-use Rattle.row_relax.specs.Choices.{choices_of}
+use Rattle.row_relax.specs.Choices.{HaveImages, choices_of}
 use Rattle.row_relax.specs.RowProofs.{RowTree}
 use Rattle.branch_tree.specs.declared.ended.Ended.{Ended}
 use Rattle.branch_tree.specs.Searched.{IsWorth}
 use Rattle.log_lines.specs.declared.line.Line.TheVariants.{End}
 use Rattle.proof_log.specs.Log.{claim_lines, item_lines, lines_text}
 use Rattle.sum_slots.specs.declared.sum.Sum.{Sum}
+use Rattle.sum_slots.specs.Shown.{AreRanges}
+use Rattle.sum_choice.specs.Headed.{is_headed}
 use Rattle.valid_log.specs.SumTexts.{larger_claim}
 use Rattle.plan_told.specs.Claims.{HaveBytes, IfPoint}
 use Rattle.plan_told.specs.Ended.{IsEnding}
@@ -20,6 +26,12 @@ use Rattle.plan_told.specs.Given.{given_end}
 use Rattle.plan_told.specs.Telling.{IsTold}
 use Rattle.plan_told.specs.declared.telling.Told.{Told}
 use Rattle.head_choice.specs.declared.heading.Headed.{Headed}
+use Rattle.logged_search.specs.Logging.{HasFewSplits}
+
+-- what a search ended with can be told of a sound plant: its best point has a value for each slot
+pub record CanTell (plant : Plant) (ended : Ended) : Type 0 where
+  pub sound : Sound plant
+  pub places : IfSome ended.best (λ found. length found.point ≡ length (slots plant))
 
 -- this is what is told of a plant and the end of a search, with the claim as of the program with sums
 pub record IsToldLarger (plant : Plant) (sums : List Sum) (ended : Ended) (larger : Told) : Type 0 where
@@ -41,6 +53,22 @@ IsEndOver most headed budget ended tree = IsEnding most headed.rows true headed.
 pub record CanBeTold (plant : Plant) (headed : Headed) (least : Option Found) (budget : ℕ) : Type 0 where
   pub places : (ended : Ended) (tree : RowTree) → IsEndOver (depth_limit plant) headed budget ended tree → IfSome (end_over headed least ended).best (λ found. length found.point ≡ length (slots plant))
   pub bytes : (ended : Ended) (tree : RowTree) (told : Told) → IsEndOver (depth_limit plant) headed budget ended tree → IsTold plant (end_over headed least ended) told → IfPoint told.claim (HaveBytes headed.sums)
+
+-- with this budget the rows of a head can be searched for a sound plant, and what that ends with can be told
+pub record CanPlanOver (plant : Plant) (headed : Headed) (least : Option Found) (budget : ℕ) : Type 0 where
+  pub sound : Sound plant
+  pub images : HaveImages headed.rows
+  pub splits : HasFewSplits (depth_limit plant) headed.rows.program
+  pub few : (1 ≤ budget) × (budget ≤ 100000)
+  pub told : CanBeTold plant headed least budget
+
+-- with this budget a part of a sound plant's choices, judged over these domains, can be planned behind a head: it has many points
+pub record CanPlanHeaded (plant : Plant) (part : Program) (judged : List Domain) (budget : ℕ) : Type 0 where
+  pub sound : Sound plant
+  pub part_of : IsPartOf plant part
+  pub ranges : AreRanges part judged
+  pub many : is_headed part 0 ≡ true
+  pub few : (1 ≤ budget) × (budget ≤ 100000)
 
 -- the text of a log behind a head, of this proof and of what is told with the values of the sums
 abbrev pub text_over : Headed → RowTree → Told → List ℕ

@@ -3,10 +3,7 @@ use Rattle.std.proofs.Common.{◌+◌, ◌*◌}
 use Rattle.log_nodes.proofs.skipping.+skipping.Given as goal
 
 abbrev pub decreases-skip_below : goal.decreases-skip_below
-decreases-skip_below g l = 3 * l.most + 2
-
-abbrev pub decreases-skip_parts : goal.decreases-skip_parts
-decreases-skip_parts g l = 3 * l.most + 1
+decreases-skip_below g l = 2 * l.most + 1
 
 abbrev pub decreases-skip_tree : goal.decreases-skip_tree
-decreases-skip_tree g l = 3 * l.most
+decreases-skip_tree g l = 2 * l.most

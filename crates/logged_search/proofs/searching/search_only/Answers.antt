@@ -5,8 +5,8 @@ use Rattle.plan_told.proofs.EmptyRoots.{empty-none}
 use Rattle.logged_search.proofs.EmptySearch.{not-open}
 use Rattle.logged_search.proofs.searching.search_only.Goals as goal
 
-pub search_open-requires-clause-searchable : goal.search_open-requires-clause-searchable
-search_open-requires-clause-searchable g c = record { images = c.requires.images; program = c.is_searchable.ensures.0 c.if-is_searchable.true }
+pub search_open-requires : goal.search_open-requires
+search_open-requires g c = record { searchable = record { images = c.requires.images; program = c.is_searchable.ensures.0 c.if-is_searchable.true }; few = c.requires.budget }
 
 pub returns-else-is_searchable-clause-ended : goal.returns-else-is_searchable-clause-ended
 returns-else-is_searchable-clause-ended g c =

@@ -1,5 +1,5 @@
 -- A count that the guide left exact is exact, and that of the second search, which has no guide.
-use Rattle.std.proofs.Common.{inl}
+use Rattle.std.proofs.Common.{inl, refl}
 use Rattle.logged_search.proofs.searching.search_open.Goals as goal
 
 pub returns-then-guided-clause-ended : goal.returns-then-guided-clause-ended
@@ -7,7 +7,7 @@ returns-then-guided-clause-ended g c =
     let found = c.in-Ok.ensures.ok in
     record { tree = found.tree; of = inl (record { search = found.search; exact = c.in-Ok.ensures.exact c.if-guided.true }) }
 
-pub returns-in-Ok-search_hinted-clause-ended : goal.returns-in-Ok-search_hinted-clause-ended
-returns-in-Ok-search_hinted-clause-ended g c =
-    let found = c.in-Ok-search_hinted.ensures.ok in
-    record { tree = found.tree; of = inl (record { search = found.search; exact = c.in-Ok-search_hinted.ensures.exact }) }
+pub returns-in-Ok-put_search-clause-ended : goal.returns-in-Ok-put_search-clause-ended
+returns-in-Ok-put_search-clause-ended g c =
+    let found = c.in-Ok-put_search.ensures.ok in
+    record { tree = found.tree; of = inl (record { search = found.search; exact = c.in-Ok-put_search.ensures.exact (c.in-Ok-put_search.ensures.unguided refl) }) }

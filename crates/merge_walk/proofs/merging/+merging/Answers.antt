@@ -106,7 +106,7 @@ merge_looked-returns-in-Some-end-clause-reading g t c =
     let sources = c.args.sources.now.items in
     let new' = g.F.Shelf.files c.put_end.new.files in
     answer-always c.put_end.result (AreReading new' stem sources)
-    (readings-stay (name_of c.args.writer.now) stem sources (g.F.Shelf.files c.args.files.now) new' c.put_end.ensures.frame.others c.requires.apart c.requires.reading)
+    (readings-stay (name_of c.args.writer.now) stem sources (g.F.Shelf.files c.args.files.now) new' c.put_end.ensures.frame.others c.requires.can.apart c.requires.can.reading)
 
 pub merge_looked-returns-then-branch-clause-merged : goal.merge_looked-returns-then-branch-clause-merged
 merge_looked-returns-then-branch-clause-merged g t c = λ before has.
@@ -140,7 +140,7 @@ merge_looked-returns-then-branch-clause-reading g t c =
     let pass = c.in_ok-pass_below-in-Some-closing.ensures in
     let same = same-passed told stem c.in-Some.split.end c.args.depth before after (pass.passed c.if-branch.true) in
     let reading : AreReading now stem after = subst (λ (files : Option FileMap). AreReading files stem after) (sym pass.frame.same) (pass.reading c.if-branch.true) in
-    answer-always c.put_end-then-branch.result (AreReading new' stem after) (readings-stay out stem after now new' c.put_end-then-branch.ensures.frame.others (same-apart out out stem before after refl same c.requires.apart) reading)
+    answer-always c.put_end-then-branch.result (AreReading new' stem after) (readings-stay out stem after now new' c.put_end-then-branch.ensures.frame.others (same-apart out out stem before after refl same c.requires.can.apart) reading)
 
 pub merge_looked-returns-then-branch-clause-as_before : goal.merge_looked-returns-then-branch-clause-as_before
 merge_looked-returns-then-branch-clause-as_before g t c = answer-always c.put_end-then-branch.result (map view_of c.args.area.now ≡ map view_of c.args.area.now) refl
@@ -184,12 +184,12 @@ merge_split-merge_parts-requires g t c =
     let end = c.in_ok-put_item.ensures in
     let named : name_of c.put_item.new.writer ≡ out = end.named ∙ node.named in
     let others = others-then out (name_of c.put_node.new.writer) told (g.F.Shelf.files c.put_node.new.files) now node.named node.frame.others end.others in
-    let may_read : MayReadAll (g.F.Shelf.may_read c.put_item.new.files) stem sources = subst (λ (may : List ℕ → Bool). MayReadAll may stem sources) (sym (end.readable ∙ node.frame.readable)) c.requires.may_read in
+    let may_read : MayReadAll (g.F.Shelf.may_read c.put_item.new.files) stem sources = subst (λ (may : List ℕ → Bool). MayReadAll may stem sources) (sym (end.readable ∙ node.frame.readable)) c.requires.can.may_read in
     let may_write : IsTrue (g.F.Shelf.may_write c.put_item.new.files (name_of c.put_item.new.writer)) =
     subst (λ (may : List ℕ → Bool). IsTrue (may (name_of c.put_item.new.writer))) (sym (end.writable ∙ node.frame.writable))
-    (subst (λ (name : List ℕ). IsTrue (g.F.Shelf.may_write c.args.files.now name)) (sym named) c.requires.may_write) in
-    let apart : AreApart (name_of c.put_item.new.writer) stem sources = subst (λ (name : List ℕ). AreApart name stem sources) (sym named) c.requires.apart in
-    let reading : AreReading now stem sources = readings-stay out stem sources told now others c.requires.apart c.requires.reading in
+    (subst (λ (name : List ℕ). IsTrue (g.F.Shelf.may_write c.args.files.now name)) (sym named) c.requires.can.may_write) in
+    let apart : AreApart (name_of c.put_item.new.writer) stem sources = subst (λ (name : List ℕ). AreApart name stem sources) (sym named) c.requires.can.apart in
+    let reading : AreReading now stem sources = readings-stay out stem sources told now others c.requires.can.apart c.requires.can.reading in
     search rules
 
 pub merge_split-returns-in_err-put_item-clause-frame : goal.merge_split-returns-in_err-put_item-clause-frame
@@ -271,7 +271,7 @@ merge_split-returns-in-Some-clause-merged g t c =
     let is = split-end node.end pick cert c.item_of-item.result c.item_of-item.ensures c.in-Split.is in
     let capped = c.greater_cap.ensures ∙ ap (λ (one : Capped). greater one c.in-Some.cap) (c.floor_cap.ensures ∙ ap floor_cap c.trim-floor.ensures.floor) in
     subst (HasMergedSplit rows best (seen c.args.area.now) node told new' stem depth before after writer later) (sym capped)
-    (node-merged rows best (seen c.args.area.now) (seen cut) (seen rest) node pick cert told now new' stem (name_of writer) depth before after writer between later c.in-Some.cap is led c.trim-floor.ensures.trimmed put others c.requires.apart parts)
+    (node-merged rows best (seen c.args.area.now) (seen cut) (seen rest) node pick cert told now new' stem (name_of writer) depth before after writer between later c.in-Some.cap is led c.trim-floor.ensures.trimmed put others c.requires.can.apart parts)
 
 -- ---- the parts of a split
 
@@ -296,11 +296,11 @@ merge_parts-merge_node-requires-2 g t c =
     let named : name_of c.merge_node.new.writer ≡ name_of c.args.writer.now = c.in_ok-first.ensures.named in
     let has = subst (λ (o : Option Capped). IfSome o (HasMerged c.args.merging.rows.now c.args.merging.best (seen c.left.new.area) told now stem (c.args.depth + 1) before middle c.args.writer.now c.merge_node.new.writer)) c.in-Some.is c.in_ok-first.ensures.merged in
     let same = same-trees told stem (c.args.depth + 1) before middle has.here has.read in
-    let may_read : MayReadAll (g.F.Shelf.may_read c.merge_node.new.files) stem middle = same-may-read (g.F.Shelf.may_read c.args.files.now) (g.F.Shelf.may_read c.merge_node.new.files) stem before middle c.in_ok-first.ensures.frame.readable same c.requires.may_read in
+    let may_read : MayReadAll (g.F.Shelf.may_read c.merge_node.new.files) stem middle = same-may-read (g.F.Shelf.may_read c.args.files.now) (g.F.Shelf.may_read c.merge_node.new.files) stem before middle c.in_ok-first.ensures.frame.readable same c.requires.can.may_read in
     let may_write : IsTrue (g.F.Shelf.may_write c.merge_node.new.files (name_of c.merge_node.new.writer)) =
     subst (λ (may : List ℕ → Bool). IsTrue (may (name_of c.merge_node.new.writer))) (sym c.in_ok-first.ensures.frame.writable)
-    (subst (λ (name : List ℕ). IsTrue (g.F.Shelf.may_write c.args.files.now name)) (sym named) c.requires.may_write) in
-    let apart : AreApart (name_of c.merge_node.new.writer) stem middle = same-apart (name_of c.args.writer.now) (name_of c.merge_node.new.writer) stem before middle named same c.requires.apart in
+    (subst (λ (name : List ℕ). IsTrue (g.F.Shelf.may_write c.args.files.now name)) (sym named) c.requires.can.may_write) in
+    let apart : AreApart (name_of c.merge_node.new.writer) stem middle = same-apart (name_of c.args.writer.now) (name_of c.merge_node.new.writer) stem before middle named same c.requires.can.apart in
     let reading : AreReading now stem middle = subst (λ (o : Option Capped). IfSome o (λ _. AreReading now stem middle)) c.in-Some.is c.in_ok-first.ensures.reading in
     search rules
 
@@ -371,6 +371,6 @@ merge_parts-returns-clause-merged g t c =
     let first = subst (λ (o : Option Capped). IfSome o (HasMerged rows best (seen c.left.new.area) told now stem below before middle writer between)) c.in-Some.is c.in_ok-first.ensures.merged in
     let second = subst (λ (o : Option Capped). IfSome o (HasMerged rows best (seen c.right.new.area) now new' stem below middle after between later)) c.in-Some-2.is c.in_ok-second.ensures.merged in
     let out = name_of writer in
-    let apart = same-apart out out stem before middle refl (same-trees told stem below before middle first.here first.read) c.requires.apart in
+    let apart = same-apart out out stem before middle refl (same-trees told stem below before middle first.here first.read) c.requires.can.apart in
     subst (HasMergedParts rows best (seen c.args.area.now) pick told new' stem c.args.depth before after writer later) {x = greater one two} (sym c.greater_cap.ensures)
     (parts-merged rows best (seen c.args.area.now) (seen c.left.new.area) (seen c.right.new.area) pick told now new' stem out c.args.depth before middle after writer between later one two left.0 right.0 c.in_ok-first.ensures.frame.others apart first second)

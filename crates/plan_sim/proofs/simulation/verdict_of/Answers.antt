@@ -21,7 +21,7 @@ pub returns-in-None-clause-verdict : goal.returns-in-None-clause-verdict
 returns-in-None-clause-verdict c =
     let fits : SFits w128 c.profit_of.result = search rules in (
       feasible_from c.args.plant.now c.args.plan.now c.requires.units (plan_kept c.args.plant.now c.args.plan.now c.args.stocks.now c.args.loads.now c.requires.stocks c.requires.loads (c.args.plant.now.periods + 1) (omega arith) c.in-None.ensures),
-      rw (to_z-of_z w128 c.profit_of.result fits) c.profit_of.ensures,
+      rw (to_z-of_z w128 c.profit_of.result fits) c.profit_of.ensures.value,
     )
 
 pub returns-in-None-clause-feasible : goal.returns-in-None-clause-feasible

@@ -3,16 +3,13 @@ use Rattle.std.proofs.Common.{◌+◌, ◌*◌, ◌-◌}
 use Rattle.resumed_log.proofs.writing.+writing.Given as goal
 
 abbrev pub decreases-write_node : goal.decreases-write_node
-decreases-write_node g l = 6 * (l.walk.pair.most - l.depth) + 5
-
-abbrev pub decreases-write_entered : goal.decreases-write_entered
-decreases-write_entered g l = 6 * (l.walk.pair.most - l.depth) + 4
+decreases-write_node g l = 4 * (l.walk.pair.most - l.walk.depth) + 3
 
 abbrev pub decreases-write_below : goal.decreases-write_below
-decreases-write_below g l = 6 * (l.walk.pair.most - l.depth) + 3
+decreases-write_below g l = 4 * (l.walk.pair.most - l.walk.depth) + 2
 
 abbrev pub decreases-write_end : goal.decreases-write_end
-decreases-write_end g l = 6 * (l.walk.pair.most - l.depth) + 2
+decreases-write_end g l = 4 * (l.walk.pair.most - l.walk.depth) + 1
 
 abbrev pub decreases-write_parts : goal.decreases-write_parts
-decreases-write_parts g l = 6 * (l.walk.pair.most - l.depth)
+decreases-write_parts g l = 4 * (l.walk.pair.most - l.walk.depth)

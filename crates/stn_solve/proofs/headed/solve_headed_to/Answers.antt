@@ -4,33 +4,33 @@ use Rattle.std.proofs.lemmas.Result.{IfOk-weaker, on_err_weaker}
 use Rattle.stn_model.specs.declared.answer.Outcome.{Outcome}
 use Rattle.stn_model.specs.Points.{depth_limit}
 use Rattle.plan_told.specs.Proofs.{bytes_in}
-use Rattle.logged_search.specs.Logging.{LeavesBegun, stored}
-use Rattle.logged_search.proofs.LogsLeft.{headed-left, keeps-none}
+use Rattle.logged_search.specs.Logging.{LeavesBegun}
+use Rattle.logged_search.proofs.LogsLeft.{headed-left, writes-none}
 use Rattle.stn_solve.specs.laws.Telling.{IsToldOver}
 use Rattle.stn_solve.proofs.SearchTold.{can-be-told, headed-images}
 use Rattle.stn_solve.proofs.ToldOver.{over-begun, over-outcome, over-proof}
 use Rattle.stn_solve.proofs.headed.solve_headed_to.Goals as goal
 
-pub solve_over-requires-clause-images : goal.solve_over-requires-clause-images
-solve_over-requires-clause-images g c = headed-images c.args.plant.now c.args.part c.args.judged c.in_ok-headed.field-0.headed c.requires.sound c.requires.part c.requires.ranges c.in_ok-headed.ensures.headed
-
-pub solve_over-requires-clause-splits : goal.solve_over-requires-clause-splits
-solve_over-requires-clause-splits g c = c.in_ok-headed.ensures.headed.few_splits
-
-pub solve_over-requires-clause-told : goal.solve_over-requires-clause-told
-solve_over-requires-clause-told g c = can-be-told c.args.plant.now c.args.part c.args.judged c.in_ok-headed.field-0.headed c.in_ok-headed.field-0.least c.args.budget c.requires.sound c.requires.part c.requires.ranges c.in_ok-headed.ensures.headed c.in_ok-headed.ensures.least c.requires.budget.0 c.requires.many c.requires.budget.1
+pub solve_over-requires-clause-can : goal.solve_over-requires-clause-can
+solve_over-requires-clause-can g c = record {
+  sound = c.requires.can.sound;
+  images = headed-images c.args.plant.now c.args.part c.args.judged c.in_ok-headed.field-0.headed c.requires.can.sound c.requires.can.part_of c.requires.can.ranges c.in_ok-headed.ensures.headed;
+  splits = c.in_ok-headed.ensures.headed.few_splits;
+  few = c.requires.can.few;
+  told = can-be-told c.args.plant.now c.args.part c.args.judged c.in_ok-headed.field-0.headed c.in_ok-headed.field-0.least c.args.budget c.requires.can.sound c.requires.can.part_of c.requires.can.ranges c.in_ok-headed.ensures.headed c.in_ok-headed.ensures.least c.requires.can.few.0 c.requires.can.many c.requires.can.few.1;
+}
 
 pub returns-clause-outcome : goal.returns-clause-outcome
 returns-clause-outcome g c =
-    IfOk-weaker c.solve_over.result _ _ (λ (outcome : Outcome) (over : IsToldOver c.args.plant.now c.in_ok-headed.field-0.headed c.in_ok-headed.field-0.least c.args.budget c.as_slice.result.now (bytes_in c.args.name.now (g.F.Shelf.files c.solve_over.new.files)) outcome). over-outcome c.args.plant.now c.args.part c.args.judged c.in_ok-headed.field-0.headed c.in_ok-headed.field-0.least c.args.budget c.as_slice.result.now (bytes_in c.args.name.now (g.F.Shelf.files c.solve_over.new.files)) c.requires.sound c.requires.part c.requires.ranges c.in_ok-headed.ensures.headed c.in_ok-headed.ensures.least c.requires.budget.0 c.requires.many c.requires.budget.1 outcome over) c.solve_over.ensures.told
+    IfOk-weaker c.solve_over.result _ _ (λ (outcome : Outcome) (over : IsToldOver c.args.plant.now c.in_ok-headed.field-0.headed c.in_ok-headed.field-0.least c.args.budget c.as_slice.result.now (bytes_in c.args.name.now (g.F.Shelf.files c.solve_over.new.files)) outcome). over-outcome c.args.plant.now c.args.part c.args.judged c.in_ok-headed.field-0.headed c.in_ok-headed.field-0.least c.args.budget c.as_slice.result.now (bytes_in c.args.name.now (g.F.Shelf.files c.solve_over.new.files)) c.requires.can.sound c.requires.can.part_of c.requires.can.ranges c.in_ok-headed.ensures.headed c.in_ok-headed.ensures.least c.requires.can.few.0 c.requires.can.many c.requires.can.few.1 outcome over) c.solve_over.ensures.told
 
 pub returns-clause-proof : goal.returns-clause-proof
 returns-clause-proof g c = λ levels has.
-    IfOk-weaker c.solve_over.result _ _ (λ (outcome : Outcome) (over : IsToldOver c.args.plant.now c.in_ok-headed.field-0.headed c.in_ok-headed.field-0.least c.args.budget c.as_slice.result.now (bytes_in c.args.name.now (g.F.Shelf.files c.solve_over.new.files)) outcome). over-proof c.args.plant.now c.args.part c.args.judged c.in_ok-headed.field-0.headed c.in_ok-headed.field-0.least c.args.budget c.as_slice.result.now (bytes_in c.args.name.now (g.F.Shelf.files c.solve_over.new.files)) c.requires.sound c.requires.part c.requires.ranges c.in_ok-headed.ensures.headed c.in_ok-headed.ensures.least c.requires.budget.0 c.requires.many c.requires.budget.1 outcome over levels has) c.solve_over.ensures.told
+    IfOk-weaker c.solve_over.result _ _ (λ (outcome : Outcome) (over : IsToldOver c.args.plant.now c.in_ok-headed.field-0.headed c.in_ok-headed.field-0.least c.args.budget c.as_slice.result.now (bytes_in c.args.name.now (g.F.Shelf.files c.solve_over.new.files)) outcome). over-proof c.args.plant.now c.args.part c.args.judged c.in_ok-headed.field-0.headed c.in_ok-headed.field-0.least c.args.budget c.as_slice.result.now (bytes_in c.args.name.now (g.F.Shelf.files c.solve_over.new.files)) c.requires.can.sound c.requires.can.part_of c.requires.can.ranges c.in_ok-headed.ensures.headed c.in_ok-headed.ensures.least c.requires.can.few.0 c.requires.can.many c.requires.can.few.1 outcome over levels has) c.solve_over.ensures.told
 
 pub returns-clause-begun : goal.returns-clause-begun
 returns-clause-begun g c =
-    IfOk-weaker c.solve_over.result _ _ (λ (outcome : Outcome) (over : IsToldOver c.args.plant.now c.in_ok-headed.field-0.headed c.in_ok-headed.field-0.least c.args.budget c.as_slice.result.now (bytes_in c.args.name.now (g.F.Shelf.files c.solve_over.new.files)) outcome). over-begun c.args.plant.now c.args.part c.args.judged c.in_ok-headed.field-0.headed c.in_ok-headed.field-0.least c.args.budget c.as_slice.result.now (bytes_in c.args.name.now (g.F.Shelf.files c.solve_over.new.files)) c.requires.sound c.requires.part c.requires.ranges c.in_ok-headed.ensures.headed c.in_ok-headed.ensures.least c.requires.budget.0 c.requires.many c.requires.budget.1 outcome over c.args.start.now (λ lawful. c.as_slice.ensures ∙ c.in_ok-headed.ensures.point lawful)) c.solve_over.ensures.told
+    IfOk-weaker c.solve_over.result _ _ (λ (outcome : Outcome) (over : IsToldOver c.args.plant.now c.in_ok-headed.field-0.headed c.in_ok-headed.field-0.least c.args.budget c.as_slice.result.now (bytes_in c.args.name.now (g.F.Shelf.files c.solve_over.new.files)) outcome). over-begun c.args.plant.now c.args.part c.args.judged c.in_ok-headed.field-0.headed c.in_ok-headed.field-0.least c.args.budget c.as_slice.result.now (bytes_in c.args.name.now (g.F.Shelf.files c.solve_over.new.files)) c.requires.can.sound c.requires.can.part_of c.requires.can.ranges c.in_ok-headed.ensures.headed c.in_ok-headed.ensures.least c.requires.can.few.0 c.requires.can.many c.requires.can.few.1 outcome over c.args.start.now (λ lawful. c.as_slice.ensures ∙ c.in_ok-headed.ensures.point lawful)) c.solve_over.ensures.told
 
 pub returns-clause-err : goal.returns-clause-err
 returns-clause-err g c = λ levels has.
@@ -41,8 +41,8 @@ returns-clause-err g c = λ levels has.
     headed-left c.args.plant.now c.args.part headed.rows c.args.judged levels headed.sums is.units is.derivations headed.head.items c.args.name.now is.can has is.head (g.F.Shelf.files c.args.files.now) (g.F.Shelf.files c.solve_over.new.files) left)
     c.solve_over.ensures.err
 
-pub returns-in_err-headed-clause-kept : goal.returns-in_err-headed-clause-kept
-returns-in_err-headed-clause-kept g c = keeps-none (stored g.F.Shelf.files g.F.Shelf.read_faults g.F.Shelf.may_read g.F.Shelf.may_write c.args.name.now c.args.files.now)
+pub returns-in_err-headed-clause-frame : goal.returns-in_err-headed-clause-frame
+returns-in_err-headed-clause-frame g c = writes-none g.F.Shelf c.args.name.now c.args.files.now
 
-pub returns-clause-kept : goal.returns-clause-kept
-returns-clause-kept g c = c.solve_over.ensures.kept
+pub returns-clause-frame : goal.returns-clause-frame
+returns-clause-frame g c = c.solve_over.ensures.frame

@@ -3,5 +3,11 @@ use Rattle.std.proofs.Common.{◌∙◌, sym}
 use Rattle.stn_solve.proofs.SearchTold.{headed-whole}
 use Rattle.stn_solve.proofs.part.solve_rows_to.Goals as goal
 
-pub solve_headed_to-requires-clause-many : goal.solve_headed_to-requires-clause-many
-solve_headed_to-requires-clause-many g c = headed-whole c.args.part c.args.levels c.requires.part.each_open (sym c.has_many.ensures ∙ c.if-has_many.true)
+pub solve_headed_to-requires-clause-can : goal.solve_headed_to-requires-clause-can
+solve_headed_to-requires-clause-can g c = record {
+  sound = c.requires.sound;
+  part_of = c.requires.part;
+  ranges = c.requires.ranges;
+  many = headed-whole c.args.part c.args.levels c.requires.part.each_open (sym c.has_many.ensures ∙ c.if-has_many.true);
+  few = c.requires.budget;
+}

@@ -8,10 +8,10 @@ use Rattle.proof_log.specs.Log.{claim_lines, item_lines, lines_text, log_text}
 use Rattle.proof_log.specs.Writer.{writing}
 use Rattle.row_relax.proofs.Choosing.{plain-images}
 use Rattle.plan_told.proofs.Texts.{plain-has}
-use Rattle.logged_search.specs.Logging.{stored}
-use Rattle.logged_search.proofs.LogsLeft.{kept-finished, keeps-none, logged-begun, logged-broke, logged-whole, plain-left, plain-text, plain-told, told-bytes}
+use Rattle.logged_search.proofs.LogsLeft.{logged-begun, logged-broke, logged-whole, plain-left, plain-text, plain-told, told-bytes, writes-kept, writes-none}
 use Rattle.stn_solve.proofs.BegunTold.{told-earns, worth-plain}
 use Rattle.stn_solve.proofs.SearchTold.{plain-places, plain-right, plain-search}
+use Rattle.stn_solve.proofs.Frames.{finished}
 use Rattle.stn_solve.proofs.Limited.{left-at, logged-at}
 use Rattle.stn_solve.proofs.Searchable.{part-searchable}
 use Rattle.stn_solve.proofs.plain.solve_plain_to.Goals as goal
@@ -62,19 +62,21 @@ returns-clause-proof g c = λ judged levels none.
 pub returns-clause-begun : goal.returns-clause-begun
 returns-clause-begun g c = told-earns c.args.plant.now c.args.rows.now.program c.args.start.now c.in_ok-ended.field-0.ended c.in_ok-told.told (worth-plain c.args.rows.now c.args.start.now c.in_ok-ended.field-0.ended.best c.requires.plain c.in_ok-ended.ensures.begun) c.in_ok-told.ensures
 
-pub returns-in_err-head-clause-kept : goal.returns-in_err-head-clause-kept
-returns-in_err-head-clause-kept g c = keeps-none (stored g.F.Shelf.files g.F.Shelf.read_faults g.F.Shelf.may_read g.F.Shelf.may_write c.args.name.now c.args.files.now)
+pub returns-in_err-head-clause-frame : goal.returns-in_err-head-clause-frame
+returns-in_err-head-clause-frame g c = writes-none g.F.Shelf c.args.name.now c.args.files.now
 
-pub returns-in_err-ended-clause-kept : goal.returns-in_err-ended-clause-kept
-returns-in_err-ended-clause-kept g c = c.in_err-ended.ensures.kept
+pub returns-in_err-ended-clause-frame : goal.returns-in_err-ended-clause-frame
+returns-in_err-ended-clause-frame g c = writes-kept g.F.Shelf c.args.name.now c.args.files.now c.search_logged.new.files c.in_err-ended.ensures.kept c.in_err-ended.ensures.later
 
-pub returns-in_err-told-clause-kept : goal.returns-in_err-told-clause-kept
-returns-in_err-told-clause-kept g c = c.in_ok-ended.ensures.kept
+pub returns-in_err-told-clause-frame : goal.returns-in_err-told-clause-frame
+returns-in_err-told-clause-frame g c = writes-kept g.F.Shelf c.args.name.now c.args.files.now c.search_logged.new.files c.in_ok-ended.ensures.kept c.in_ok-ended.ensures.later
 
-pub returns-in_err-finish-clause-kept : goal.returns-in_err-finish-clause-kept
-returns-in_err-finish-clause-kept g c =
-    kept-finished g.F.Shelf.files g.F.Shelf.read_faults g.F.Shelf.may_read g.F.Shelf.may_write c.args.name.now c.in_ok-ended.field-0.writer c.args.files.now c.search_logged.new.files c.finish.new.files c.in_ok-ended.ensures.logged.named c.in_ok-ended.ensures.kept c.in_err-finish.ensures.broke.keeps
+pub returns-in_err-finish-clause-frame : goal.returns-in_err-finish-clause-frame
+returns-in_err-finish-clause-frame g c =
+    let is = c.in_ok-ended.ensures in
+    finished g.F.Shelf c.args.name.now c.in_ok-ended.field-0.writer c.args.files.now c.search_logged.new.files c.finish.new.files is.logged.named is.kept is.later c.in_err-finish.ensures.broke.keeps c.in_err-finish.ensures.later
 
-pub returns-clause-kept : goal.returns-clause-kept
-returns-clause-kept g c =
-    kept-finished g.F.Shelf.files g.F.Shelf.read_faults g.F.Shelf.may_read g.F.Shelf.may_write c.args.name.now c.in_ok-ended.field-0.writer c.args.files.now c.search_logged.new.files c.finish.new.files c.in_ok-ended.ensures.logged.named c.in_ok-ended.ensures.kept c.in_ok-finish.ensures.took.keeps
+pub returns-clause-frame : goal.returns-clause-frame
+returns-clause-frame g c =
+    let is = c.in_ok-ended.ensures in
+    finished g.F.Shelf c.args.name.now c.in_ok-ended.field-0.writer c.args.files.now c.search_logged.new.files c.finish.new.files is.logged.named is.kept is.later c.in_ok-finish.ensures.took.keeps c.in_ok-finish.ensures.later

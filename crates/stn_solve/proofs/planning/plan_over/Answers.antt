@@ -8,8 +8,11 @@ use Rattle.stn_solve.proofs.planning.plan_over.Goals as goal
 pub search_only-requires-clause-splits : goal.search_only-requires-clause-splits
 search_only-requires-clause-splits g c = subst (λ (n : ℕ). HasFewSplits n c.args.headed.now.rows.program) (sym c.depth_limit.ensures) c.requires.splits
 
-pub told_given-requires-clause-places : goal.told_given-requires-clause-places
-told_given-requires-clause-places g c = (let s = c.in_ok-ended.ensures.ended in c.requires.told.places c.in_ok-ended.ended s.tree (ending-at c.depth_limit.result (depth_limit c.args.plant.now) c.args.headed.now.rows true c.args.headed.now.given c.args.budget c.in_ok-ended.ended s.tree c.depth_limit.ensures s.of))
+pub told_given-requires : goal.told_given-requires
+told_given-requires g c = record {
+  sound = c.requires.sound;
+  places = (let s = c.in_ok-ended.ensures.ended in c.requires.told.places c.in_ok-ended.ended s.tree (ending-at c.depth_limit.result (depth_limit c.args.plant.now) c.args.headed.now.rows true c.args.headed.now.given c.args.budget c.in_ok-ended.ended s.tree c.depth_limit.ensures s.of));
+}
 
 pub returns : goal.returns
 returns g c =

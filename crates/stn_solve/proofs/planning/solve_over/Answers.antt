@@ -12,20 +12,24 @@ use Rattle.valid_log.specs.SumTexts.{larger_claim}
 use Rattle.plan_told.specs.Claims.{HaveBytes, IfPoint}
 use Rattle.plan_told.specs.Proofs.{bytes_in}
 use Rattle.logged_search.specs.Logging.{HasFewSplits, IsBegun, LeavesBegun}
-use Rattle.logged_search.proofs.LogsLeft.{kept-finished, logged-begun, logged-broke, logged-whole, told-bytes}
+use Rattle.logged_search.proofs.LogsLeft.{logged-begun, logged-broke, logged-whole, told-bytes, writes-kept}
+use Rattle.stn_solve.proofs.Frames.{finished}
 use Rattle.stn_solve.proofs.Limited.{left-at, logged-at}
 use Rattle.stn_solve.proofs.planning.solve_over.Goals as goal
 
 pub search_logged-requires-clause-splits : goal.search_logged-requires-clause-splits
-search_logged-requires-clause-splits g c = subst (λ (n : ℕ). HasFewSplits n c.args.headed.now.rows.program) (sym c.depth_limit.ensures) c.requires.splits
+search_logged-requires-clause-splits g c = subst (λ (n : ℕ). HasFewSplits n c.args.headed.now.rows.program) (sym c.depth_limit.ensures) c.requires.can.splits
 
-pub told_larger-requires-clause-places : goal.told_larger-requires-clause-places
-told_larger-requires-clause-places g c = (let logged = logged-at c.depth_limit.result (depth_limit c.args.plant.now) c.args.headed.now.rows true c.args.headed.now.given c.args.budget c.in_ok-ended.field-0.ended _ c.args.name.now _ c.depth_limit.ensures c.in_ok-ended.ensures.logged in c.requires.told.places c.in_ok-ended.field-0.ended logged.tree logged.is)
+pub told_larger-requires-clause-can : goal.told_larger-requires-clause-can
+told_larger-requires-clause-can g c = record {
+  sound = c.requires.can.sound;
+  places = (let logged = logged-at c.depth_limit.result (depth_limit c.args.plant.now) c.args.headed.now.rows true c.args.headed.now.given c.args.budget c.in_ok-ended.field-0.ended _ c.args.name.now _ c.depth_limit.ensures c.in_ok-ended.ensures.logged in c.requires.can.told.places c.in_ok-ended.field-0.ended logged.tree logged.is);
+}
 
 pub told_larger-requires-clause-bytes : goal.told_larger-requires-clause-bytes
 told_larger-requires-clause-bytes g c = λ told says.
     let logged = logged-at c.depth_limit.result (depth_limit c.args.plant.now) c.args.headed.now.rows true c.args.headed.now.given c.args.budget c.in_ok-ended.field-0.ended _ c.args.name.now _ c.depth_limit.ensures c.in_ok-ended.ensures.logged in
-    subst (λ (sums : List Sum). IfPoint told.claim (HaveBytes sums)) (sym c.as_slice-sums.ensures) (c.requires.told.bytes c.in_ok-ended.field-0.ended logged.tree told logged.is says)
+    subst (λ (sums : List Sum). IfPoint told.claim (HaveBytes sums)) (sym c.as_slice-sums.ensures) (c.requires.can.told.bytes c.in_ok-ended.field-0.ended logged.tree told logged.is says)
 
 pub returns-in_err-ended-clause-err : goal.returns-in_err-ended-clause-err
 returns-in_err-ended-clause-err g c =
@@ -60,16 +64,18 @@ returns-clause-told g c =
       text = told-bytes c.args.name.now at.name (g.F.Shelf.files c.finish.new.files) _ _ logged.named text (c.in_ok-finish.ensures.file _ items whole);
     }
 
-pub returns-in_err-ended-clause-kept : goal.returns-in_err-ended-clause-kept
-returns-in_err-ended-clause-kept g c = c.in_err-ended.ensures.kept
+pub returns-in_err-ended-clause-frame : goal.returns-in_err-ended-clause-frame
+returns-in_err-ended-clause-frame g c = writes-kept g.F.Shelf c.args.name.now c.args.files.now c.search_logged.new.files c.in_err-ended.ensures.kept c.in_err-ended.ensures.later
 
-pub returns-in_err-told-clause-kept : goal.returns-in_err-told-clause-kept
-returns-in_err-told-clause-kept g c = c.in_ok-ended.ensures.kept
+pub returns-in_err-told-clause-frame : goal.returns-in_err-told-clause-frame
+returns-in_err-told-clause-frame g c = writes-kept g.F.Shelf c.args.name.now c.args.files.now c.search_logged.new.files c.in_ok-ended.ensures.kept c.in_ok-ended.ensures.later
 
-pub returns-in_err-finish-clause-kept : goal.returns-in_err-finish-clause-kept
-returns-in_err-finish-clause-kept g c =
-    kept-finished g.F.Shelf.files g.F.Shelf.read_faults g.F.Shelf.may_read g.F.Shelf.may_write c.args.name.now c.in_ok-ended.field-0.writer c.args.files.now c.search_logged.new.files c.finish.new.files c.in_ok-ended.ensures.logged.named c.in_ok-ended.ensures.kept c.in_err-finish.ensures.broke.keeps
+pub returns-in_err-finish-clause-frame : goal.returns-in_err-finish-clause-frame
+returns-in_err-finish-clause-frame g c =
+    let is = c.in_ok-ended.ensures in
+    finished g.F.Shelf c.args.name.now c.in_ok-ended.field-0.writer c.args.files.now c.search_logged.new.files c.finish.new.files is.logged.named is.kept is.later c.in_err-finish.ensures.broke.keeps c.in_err-finish.ensures.later
 
-pub returns-clause-kept : goal.returns-clause-kept
-returns-clause-kept g c =
-    kept-finished g.F.Shelf.files g.F.Shelf.read_faults g.F.Shelf.may_read g.F.Shelf.may_write c.args.name.now c.in_ok-ended.field-0.writer c.args.files.now c.search_logged.new.files c.finish.new.files c.in_ok-ended.ensures.logged.named c.in_ok-ended.ensures.kept c.in_ok-finish.ensures.took.keeps
+pub returns-clause-frame : goal.returns-clause-frame
+returns-clause-frame g c =
+    let is = c.in_ok-ended.ensures in
+    finished g.F.Shelf c.args.name.now c.in_ok-ended.field-0.writer c.args.files.now c.search_logged.new.files c.finish.new.files is.logged.named is.kept is.later c.in_ok-finish.ensures.took.keeps c.in_ok-finish.ensures.later

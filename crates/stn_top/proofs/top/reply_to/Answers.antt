@@ -1,7 +1,7 @@
 -- Each command's work comes to what its call promises.
 use Rattle.std.proofs.Common.{ap, refl, [], arith}
 use Rattle.std.specs.Option.{option_map}
-use Rattle.command_words.specs.Words.{meaning, Solving, Logging, Simulating, Checking, Telling, Numbering, Upgrading, Replanning, ReplanLogging, CheckingReplan, Improving, named_log, Estimating, Seeking, Tracing, Auditing, Parting, PartSolving, Joining, Resuming, Merging, Conflicting, ConflictLogging, CheckingConflict, share_numbers}
+use Rattle.command_words.specs.Words.{meaning, Solving, Logging, Simulating, Checking, Telling, Numbering, Upgrading, Replanning, ReplanLogging, CheckingReplan, Rolling, Improving, named_log, Estimating, Seeking, Tracing, Auditing, Parting, PartSolving, Joining, Resuming, Merging, Conflicting, ConflictLogging, CheckingConflict, share_numbers}
 use Rattle.horizon_commands.proofs.Horizons.{logs_allowed, all_logs_allowed}
 use Rattle.part_commands.proofs.JoinLemmas.{parts_allowed}
 use Rattle.resume_commands.proofs.MergeLemmas.{merged_allowed, out_allowed}
@@ -20,6 +20,12 @@ returns-in-Simulate-clause-done g c =
     rw c.in-Simulate.is (only_read (Simulating c.in-Simulate.usage c.in-Simulate.plant.now c.in-Simulate.plan.now) (g.F.Shelf.files c.args.files.now) (g.F.Shelf.files c.simulate_file.new.files) (g.F.Shelf.read_faults c.args.files.now) (g.F.Shelf.read_faults c.simulate_file.new.files)
     (g.F.Shelf.write_faults c.args.files.now) (g.F.Shelf.write_faults c.simulate_file.new.files) c.simulate_file.result
     c.simulate_file.ensures.answer c.simulate_file.ensures.fault c.simulate_file.ensures.unwritten c.simulate_file.ensures.kept.same c.simulate_file.ensures.kept.later c.simulate_file.ensures.kept.no_write)
+
+pub returns-in-Roll-clause-done : goal.returns-in-Roll-clause-done
+returns-in-Roll-clause-done g c =
+    rw c.in-Roll.is (only_read (Rolling c.in-Roll.plant.now c.in-Roll.plan.now c.in-Roll.period.number c.in-Roll.rest) (g.F.Shelf.files c.args.files.now) (g.F.Shelf.files c.roll_file.new.files) (g.F.Shelf.read_faults c.args.files.now) (g.F.Shelf.read_faults c.roll_file.new.files)
+    (g.F.Shelf.write_faults c.args.files.now) (g.F.Shelf.write_faults c.roll_file.new.files) c.roll_file.result
+    c.roll_file.ensures.answer c.roll_file.ensures.fault c.roll_file.ensures.unwritten c.roll_file.ensures.kept.same c.roll_file.ensures.kept.later c.roll_file.ensures.kept.no_write)
 
 pub returns-in-Check-clause-done : goal.returns-in-Check-clause-done
 returns-in-Check-clause-done g c =

@@ -1,9 +1,0 @@
-use Rattle.std.proofs.Common.{ℕ, List, [], get_or, Bor, codes, arith}
-use Rattle.command_words.proofs.WordLemmas.{six_words, not_empty}
-use Rattle.command_words.proofs.command.estimate_of.Goals as goal
-
-pub returns-in-Some : goal.returns-in-Some
-returns-in-Some c =
-    let no_word : Bor (List ℕ) = record { ref_ptr = (0, 0); now = [] } in
-    let words = six_words c.args.words.now no_word (codes "whatif") (omega arith) (omega arith) c.if-eq.ensures in
-    ((get_or c.args.words.now 4 no_word).now, ((get_or c.args.words.now 5 no_word).now, (words, not_empty _ c.if-not-is_empty.ensures, not_empty _ c.if-not-is_empty-2.ensures, c.in-Some.ensures.0, c.in-Some.ensures.1)))

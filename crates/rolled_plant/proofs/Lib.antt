@@ -1,0 +1,22 @@
+pub mod Basics
+mod Given
+mod Arriving
+mod Stocks
+mod Loads
+mod Fitting
+mod Joined
+mod Follows
+mod Latest
+mod Ready
+mod Feasibility
+mod Changeovers
+mod Earned
+mod Fewer
+mod Gained
+mod RolledSound
+mod Listing
+mod Levels
+mod Held
+mod Lost
+mod Laws
+mod Mending

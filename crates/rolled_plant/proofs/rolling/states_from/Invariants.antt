@@ -1,0 +1,7 @@
+use Rattle.std.proofs.Common.{◌≡◌, take}
+use Rattle.rolled_plant.specs.Lists.{map_from}
+use Rattle.rolled_plant.specs.RolledPlant.{rolled_state}
+use Rattle.rolled_plant.proofs.rolling.states_from.Given as goal
+
+abbrev pub invariant-loop-number : goal.invariant-loop-number
+invariant-loop-number l = l.states ≡ map_from (rolled_state l.plant l.before l.period) 0 (take l.number l.plant.states)
