@@ -26,7 +26,7 @@ SHIM = os.path.join(TOP, "bench", "plain")
 # Where the shim of a kit's crate stands; thiserror's derive is taken from the text, so that nothing is left of it, and of toml's
 # parts lemmas alone are used.
 KIT = {"kit": [], "toml": ["kit"], "indexmap": ["kit"], "anyhow": ["kit"]}
-GONE = ("thiserror", "toml_parser", "toml_writer")
+GONE = ("thiserror", "toml_datetime", "toml_parser", "toml_writer")
 
 # What each file begins with, since Rust's own prelude is that of another std.
 PRELUDE = "#[allow(unused_imports)] use std::kit_prelude::*; "

@@ -9,6 +9,7 @@ PLANT and PLAN have to be without a fault. Besides, the texts are rolled on: wha
 that break something nothing is.
 """
 import os, random, subprocess, sys, tempfile
+from datetime import datetime, timedelta
 from fractions import Fraction
 
 from violations import Plant, amounts_lines, made_plan, read_plan, units_lines
@@ -72,11 +73,23 @@ def left_of(things, period):
     return [{key: value[period:] if key in ("limits", "rates") else value for key, value in it.items()} for it in things]
 
 
+def later_start(plant, period):
+    """When the rolled plant's calendar begins, or nothing where that is past the year 9999."""
+    try:
+        return plant.held["start"] + timedelta(minutes=plant.held["minutes"] * period)
+    except OverflowError:
+        return None
+
+
 def rolled_plant(plant, kept, period):
-    """The document of the rolled plant, or nothing where it would have too many receipts."""
+    """The document of the rolled plant, or nothing where no file can say it: too many receipts, or too late a date."""
     made = dict(plant.held, version=3, periods=plant.periods - period, receipt=receipts(plant, kept, period))
     if len(made["receipt"]) > MOST_RECEIPTS:
         return None
+    if "start" in made:
+        made["start"] = later_start(plant, period)
+        if made["start"] is None:
+            return None
     made["state"] = left_of(plant.several("state"), period)
     for state, old in zip(made["state"], plant.several("state")):
         state["initial"] = min(standing(plant, kept, old, period), BILLION)
@@ -91,7 +104,8 @@ def rolled_plant(plant, kept, period):
 
 
 def rolled_unit(unit, last, period):
-    return {"name": unit["name"], **({"last": last[0], "until": max(EARLIEST, last[1] - period)} if last else {})}
+    named = {key: unit[key] for key in ("name", "label") if key in unit}
+    return {**named, **({"last": last[0], "until": max(EARLIEST, last[1] - period)} if last else {})}
 
 
 # ---------------------------------------------------------------- what was earned before
@@ -126,7 +140,24 @@ def earned(plant, kept, period):
 
 
 def shown(value):
-    return f'"{value}"' if isinstance(value, str) else f"[{', '.join(map(str, value))}]" if isinstance(value, list) else str(value)
+    if isinstance(value, str):
+        return shown_text(value)
+    if isinstance(value, datetime):
+        return value.isoformat()
+    return f"[{', '.join(map(str, value))}]" if isinstance(value, list) else str(value)
+
+
+def shown_text(text):
+    """A text of one line in the first kind of quotes in which nothing has to be escaped, and else escaped."""
+    if not set(text) & {'"', "\\"}:
+        return f'"{text}"'
+    if "'" not in text:
+        return f"'{text}'"
+    if "\\" not in text and '"""' not in text:
+        return f'"""{text}"""'
+    if "'''" not in text:
+        return f"'''{text}'''"
+    return '"' + text.replace("\\", "\\\\").replace('"', '\\"') + '"'
 
 
 def lowest(item):
@@ -194,6 +225,9 @@ def text_of(plan):
 # ---------------------------------------------------------------- made plants, and the comparison
 
 
+LABELS = ("Mälzerei & Co. <1>", "乳化釜", 'a "kettle"', "Kessel 'a' und \"b\"", "C:\\tank", "'C:\\' \"\"\"", "''' \\")
+
+
 def maybe(rng, key, value, chance=0.5):
     return {key: value} if rng.random() < chance else {}
 
@@ -229,6 +263,13 @@ def made_plant(rng):
     plant["task"] = [made_task(rng, it, states, utilities) for it in tasks]
     plant["run"] = [{"task": task, "unit": unit, "min": 1, "max": 3, **maybe(rng, "cost", rng.randint(-2, 3))} for task in tasks for unit in units if rng.random() < 0.8]
     pairs = [(unit, one, other) for unit in units for one in tasks for other in tasks]
+    for thing in [it for table in ("state", "utility", "unit", "task") for it in plant[table]]:
+        thing.update(maybe(rng, "label", rng.choice(LABELS), 0.2))
+    for task in plant["task"]:
+        task.update(maybe(rng, "colour", f"#{rng.randrange(1 << 24):06x}", 0.3))
+    if rng.random() < 0.5:
+        plant["start"] = datetime(rng.choice((1, 1999, 2000, 2023, 2024, 2100, 9999)), *rng.choice(((12, 31), (2, 28), (6, 30))), rng.randrange(24), 30, rng.randrange(60))
+        plant["minutes"] = rng.choice((1, 15, 60, 480, 1440, 10_080))
     plant["gap"] = [{"unit": unit, "from": one, "to": other, "periods": rng.randint(0, 2), **maybe(rng, "cost", rng.randint(0, 5))} for unit, one, other in rng.sample(pairs, 2)]
     plant["receipt"] = [{"state": rng.choice(states), "time": rng.randint(0, periods), "amount": large()} for _ in range(rng.randint(0, 3))]
     plant["delivery"] = [{"state": rng.choice(states), "time": rng.randint(0, periods), "amount": rng.randint(1, 3), **maybe(rng, "payment", rng.randint(-3, 9))}

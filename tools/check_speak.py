@@ -10,6 +10,7 @@ the line, the name and the sentence.
 """
 import glob, json, os, re, shutil, subprocess, sys, tempfile
 from concurrent.futures import ThreadPoolExecutor
+from datetime import datetime
 
 TOP = os.path.dirname(os.path.dirname(os.path.abspath(__file__)))
 sys.path.insert(0, os.path.join(TOP, "tools"))
@@ -90,6 +91,10 @@ def check_table(formats):
             yield f"sentences.tsv: docs/formats.md does not say that {word} is {range_}"
 
 
+# The keys at the top that hold no array.
+NUMBERS_OF_TOP = ("version", "periods", "start", "minutes")
+
+
 def numbers_in(text):
     return [int(it.replace(",", "")) for it in re.findall(r"-?\d[\d,]*", text)]
 
@@ -105,7 +110,7 @@ def check_schema(formats):
     yield from check_arrays(seen["top"])
     for table, keys in seen.items():
         for key, (holds, default, late) in keys.items():
-            if table != "top" or key in ("version", "periods"):
+            if table != "top" or key in NUMBERS_OF_TOP:
                 yield from check_key(table, key, holds, default, late)
         known = set(fields.known(table, 3))
         if table != "top" and known != set(keys):
@@ -115,7 +120,7 @@ def check_schema(formats):
 def check_arrays(top):
     """The greatest numbers of items."""
     held = next(holds for keys, (holds, _, _) in top.items() if "at most" in holds)
-    names = [it for it in top if it not in ("version", "periods")]
+    names = [it for it in top if it not in NUMBERS_OF_TOP]
     for version, part in ((2, 0), (3, 1)):
         for name, most in zip(names, numbers_in(held.split("at most")[1].split("in version 3")[part])):
             if fields.of("top", name, version)["maxItems"] != most:
@@ -150,6 +155,15 @@ def plain(node):
     return [plain(it) for it in node.held] if node.kind == "array" else node.held
 
 
+def as_texts(value):
+    """A value of Python's reader with its dates as texts, as a schema sees them."""
+    if isinstance(value, dict):
+        return {key: as_texts(it) for key, it in value.items()}
+    if isinstance(value, list):
+        return [as_texts(it) for it in value]
+    return value.isoformat() if isinstance(value, datetime) else value
+
+
 def plants():
     return sorted(glob.glob(os.path.join(TOP, "examples", "*.toml")))
 
@@ -166,7 +180,7 @@ def check_examples():
         data = open(file, "rb").read()
         if not data.startswith(b"#:schema ../schema/plant.schema.json\n"):
             yield f"{file}: its first line does not name the schema"
-        held = tomllib.loads(data.decode())
+        held = as_texts(tomllib.loads(data.decode()))
         yield from (f"{file}: {it.message} at {list(it.path)}" for it in valid.iter_errors(held))
         if plain(Document(data).root) != held:
             yield f"{file}: the scanner reads something else than tomllib"
@@ -332,9 +346,9 @@ def of_tables():
     """Unknown keys, and items that are no tables."""
     for table in fields.tables(2):
         block = BASE.find(table)
-        wrong = BASE.put(block, "colour", "1")
+        wrong = BASE.put(block, "shade", "1")
         kind = 3 if table == "top" else 4
-        yield plant_case(f"{kind} {table}", wrong, f"{kind} {spot(table)} -", wrong.line(block, "colour"), "the key `colour`", "Known are",
+        yield plant_case(f"{kind} {table}", wrong, f"{kind} {spot(table)} -", wrong.line(block, "shade"), "the key `shade`", "Known are",
                          f"`{fields.known(table, 2)[0]}`")
         if table in INNER:
             task = BASE.find("task")
@@ -426,6 +440,36 @@ def of_runs():
     yield plant_case("3, version 1", first, "3 top 0 0 -", first.line(first.find("outage")), "`outage`", "version 2 knows it")
 
 
+def of_labels():
+    """Labels, colours and the calendar, which version 3 alone has."""
+    third = BASE.put(0, "version", "3")
+    for table in ("state", "utility", "unit", "task"):
+        block, named = BASE.find(table), f"the 1st {table} (`{BASE.blocks[BASE.find(table)][1][0][1][1:-1]}`)"
+        old = BASE.put(block, "label", '"Ä"')
+        yield plant_case(f"4, label of {table} in version 2", old, f"4 {spot(table)} -", old.line(block, "label"), "the key `label`", "version 3 knows it")
+        for written, kind, *says in (("7", 6, "`7`", "should hold a text"), ('""', 24, "it has 0 bytes"), (f'"{"ä" * 33}"', 24, "it has 66 bytes"),
+                                     ('"a\\tb"', 24, "the character U+0009"), ('"\\uFFFE"', 24, "the character U+FFFE")):
+            wrong = third.put(block, "label", written)
+            yield plant_case(f"{kind} label of {table} {written}", wrong, f"{kind} {spot(table)} label", wrong.line(block, "label"), named, *says)
+    task = BASE.find("task")
+    for written, kind, *says in (("7", 6, "should hold a text"), ('"#1e90f"', 25, '`"#1e90f"`', "six hexadecimal digits"), ('"blue"', 25, "six hexadecimal digits")):
+        wrong = third.put(task, "label", '"Mälzen"').put(task, "colour", written)
+        yield plant_case(f"{kind} colour {written}", wrong, f"{kind} task 1 0 colour", wrong.line(task, "colour"), "the 1st task (`Mälzen (make)`)", *says)
+    old = BASE.put(0, "minutes", "60")
+    yield plant_case("3, minutes in version 2", old, "3 top 0 0 -", old.line(0, "minutes"), "the key `minutes`", "version 3 knows it")
+    noon = "2026-12-24T12:00:00"
+    for start, minutes, answer, key, *says in ((noon, None, "5 top 0 0 minutes", "start", "the file has `start`, and lacks", "`minutes`, a whole number from 1 to 10,080"),
+                                               (None, "60", "5 top 0 0 start", "minutes", "the file has `minutes`, and lacks", "a date with a time of day"),
+                                               (f'"{noon}"', "60", "6 top 0 0 start", "start", "a text, and should hold a date with a time of day"),
+                                               (noon + "Z", "60", "6 top 0 0 start", "start", "a date or time, and should hold a date with a time of day"),
+                                               (noon[:-3], "60", "6 top 0 0 start", "start", f"`{noon[:-3]}`"), (noon, "true", "6 top 0 0 minutes", "minutes", "a whole number"),
+                                               (noon, "10_081", "7 top 0 0 minutes", "minutes", "1 to 10,080 is allowed"), (noon, "0", "7 top 0 0 minutes", "minutes", "`0`"),
+                                               (noon.replace("24", "32"), "60", "2 top 0 0 -", "start", "no such day or time")):
+        wrong = third.put(0, "start", start) if start else third
+        wrong = wrong.put(0, "minutes", minutes) if minutes else wrong
+        yield plant_case(f"{answer}: {start}, {minutes}", wrong, answer, wrong.line(0, key), *says)
+
+
 def of_documents():
     """Files that are no TOML documents, and one that is too large."""
     text = BASE.text()
@@ -508,6 +552,13 @@ def of_plans():
     early = ("broken gap 0 1", "`U` is not ready", "a batch of `make` held it before the plan, which ends at time 1")
     yield case("gap 0", "0 U make 1\n", *early, "`make` on `U` in period 0 (1 quantum, line 1) begins 1 period too early", plant=held)
     yield case("gap 0, cleaned", "1 U rest 1\n", *early, "is cleaned for 1 period", "begins 1 period too early", plant=held)
+    called = held.replace('name = "U",', 'name = "U", label = "Kessel & Co.",').replace('name = "make"\n', 'name = "make"\nlabel = "発酵"\n')
+    yield case("gap 0, with labels", "0 U make 1\n", early[0], "`Kessel & Co. (U)` is not ready", "a batch of `発酵 (make)` held it", "`発酵 (make)` on `Kessel & Co. (U)` in period 0",
+               plant=called)
+    yield case("plan 2, with labels", "0 Y make 3\n", "refused plan 2 1", "no unit `Y`", "`Kessel & Co. (U)`, `V`", plant=called)
+    yield case("stock-low, with a label", "", "broken stock-low prod 3", "`Bräu (prod)` at time 3 is -2", plant=called.replace('name = "prod",', 'name = "prod", label = "Bräu",'))
+    yield case("load, with a label", "1 U make 4\n", "broken load steam 1", "`蒸気 (steam)` in period 1 is 6",
+               plant=called.replace('name = "steam",', 'name = "steam", label = "蒸気",'))
     yield case("stock-low", "", "broken stock-low prod 3", "`prod` at time 3 is -2", "2 mass units are missing", "2 are due then")
     yield case("stock-low, taken", "0 U make 3\n1 U make 3\n2 U make 3\n", "broken stock-low feed 2", "`feed` at time 2 is -6", "taken then by `make` on `U` in period 2")
     yield case("stock-high", "0 U make 3\n1 U make 3\n", "broken stock-high prod 2", "`prod` at time 2 is 12", "2 above its limit of 10")
@@ -612,6 +663,8 @@ def of_words():
     yield case("PERIOD of roll", ["roll", "plant.toml", "a.plan", "3"], "PERIOD is 3", "the periods 0 to 2", answer="refused period", **{"a.plan": ""})
     hoard = TINY.replace("version = 2", "version = 3") + '[[receipt]]\nstate = "feed"\ntime = 2\namount = 1_000_000_000\n' * 899 + '[[receipt]]\nstate = "feed"\ntime = 0\namount = 1_000_000_000\n'
     yield case("receipts of roll", ["roll", "hoard.toml", "a.plan", "1"], "more than 900 receipts", answer="refused roll", **{"a.plan": "0 U make 3\n", "hoard.toml": hoard})
+    late = TINY.replace("version = 2\n", "version = 3\nstart = 9999-12-31T23:00:00\nminutes = 60\n")
+    yield case("a date of roll", ["roll", "late.toml", "a.plan", "1"], "after the year 9999", answer="refused roll", **{"a.plan": "", "late.toml": late})
     yield case("LEVELS", ["parts", "odd.toml", "3"], "LEVELS is 3", "2 slots", answer="refused levels", **{"odd.toml": ODD})
 
 
@@ -649,7 +702,7 @@ def of_answers():
 
 
 def cases():
-    for some in (at_keys, of_tables, of_names, of_tasks, of_arrays, of_runs, of_documents, of_plans, of_logs, of_joins, of_words, of_files, of_answers):
+    for some in (at_keys, of_tables, of_names, of_tasks, of_arrays, of_runs, of_labels, of_documents, of_plans, of_logs, of_joins, of_words, of_files, of_answers):
         yield from some()
 
 

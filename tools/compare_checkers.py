@@ -17,6 +17,7 @@ import subprocess
 import sys
 import tempfile
 from collections import Counter
+from datetime import datetime
 from pathlib import Path
 
 from check_log import Answer
@@ -104,7 +105,7 @@ def value_text(value):
 
 def random_plant(dice):
     """A small plant that uses every table of version 2, with stocks, loads and cleaning that bind; some of version 3, with units
-    that a batch held before."""
+    that a batch held before, labels and dates."""
     periods, states, tasks, units = dice.randint(2, 5), "abcd", dice.randint(1, 3), dice.randint(1, 2)
     some = lambda least, most, make: [make() for _ in range(dice.randint(least, most))]
     time = lambda: dice.randint(0, periods)
@@ -129,6 +130,9 @@ def random_plant(dice):
         plant["version"] = 3
         for it in plant["unit"]:
             it.update({"last": of_tasks(), "until": dice.randint(-2, periods)} if dice.random() < 0.7 else {})
+        for it in plant["state"] + plant["unit"] + plant["task"]:
+            it.update({"label": dice.choice(("Ä & Ö", "釜", "a'b"))} if dice.random() < 0.2 else {})
+        plant.update({"start": datetime(2028, 2, dice.randint(1, 29), 23), "minutes": dice.choice((15, 60, 1440))} if dice.random() < 0.5 else {})
     return plant
 
 

@@ -20,11 +20,35 @@ class Start:
     quanta: int
 
 
+def columns(letter):
+    """How wide a letter is: one of three or four bytes is as wide as two others."""
+    return 2 if len(letter.encode()) > 2 else 1
+
+
+def shortened(room, text):
+    """The text where it has room, else the longest beginning that leaves room for two points, and these."""
+    if sum(map(columns, text)) <= room:
+        return text
+    left, count = max(0, room - 2), 0
+    while columns(text[count]) <= left:
+        left -= columns(text[count])
+        count += 1
+    return text[:count] + ".."
+
+
+def escaped(text):
+    """The text as XML writes it."""
+    return text.replace("&", "&amp;").replace("<", "&lt;").replace(">", "&gt;")
+
+
 class Drawing:
     """The text of a picture, and the plant and plan that it is of."""
 
     def __init__(self, file, plan):
-        self.plant, self.names, self.plan, self.out = file.plant, file.names, plan, []
+        self.plant, self.plan, self.out = file.plant, plan, []
+        labels = {"state": [it.label for it in self.plant.states], "utility": [it.label for it in self.plant.utilities],
+                  "unit": self.plant.unit_labels, "task": [it.label for it in self.plant.tasks]}
+        self.captions = {kind: [label or name for label, name in zip(found, file.names[kind])] for kind, found in labels.items()}
         horizon = self.plant.periods
         self.width = max(54, 720 // horizon)
         self.room = (self.width - 6) // 6
@@ -93,19 +117,24 @@ class Drawing:
         self.out.append(text)
 
     def words(self, kind, x, y, text):
-        for plain, written in ("&", "&amp;"), ("<", "&lt;"), (">", "&gt;"):
-            text = text.replace(plain, written)
-        self.put(f'<text class="{kind}" x="{x}" y="{y}">{text}</text>\n')
+        self.put(f'<text class="{kind}" x="{x}" y="{y}">{escaped(text)}</text>\n')
 
     def short(self, kind, x, y, room, text):
-        self.words(kind, x, y, text if len(text) <= room else text[: room - 2] + "..")
+        self.words(kind, x, y, shortened(room, text))
 
     def fitted(self, kind, x, y, room, text):
-        if len(text) > room:
-            self.put(f"<g><title>{text}</title>\n")
+        is_cut = sum(map(columns, text)) > room
+        if is_cut:
+            self.put(f"<g><title>{escaped(text)}</title>\n")
         self.short(kind, x, y, room, text)
-        if len(text) > room:
+        if is_cut:
             self.put("</g>\n")
+
+    def group(self, task):
+        """The beginning of a task's group: its class, and its own colour where it has one."""
+        colour = self.plant.tasks[task].colour
+        style = f' style="fill:{colour}"' if colour else ""
+        return f'<g class="c{task % 8}"{style}>'
 
     def box(self, kind, x, y, width, height):
         self.put(f'<rect class="{kind}" x="{x}" y="{y}" width="{width}" height="{height}"/>\n')
@@ -139,7 +168,7 @@ class Drawing:
 
     def units(self, band):
         span = self.periods_in(band) * self.width
-        for unit, name in enumerate(self.names["unit"]):
+        for unit, name in enumerate(self.captions["unit"]):
             y = ROW + ROW * unit
             self.fitted("name", 0, y + 15, 20, name)
             self.box("row", LEFT, y + 1, span, 20)
@@ -181,8 +210,8 @@ class Drawing:
     def colour_bar(self, found, unit, task, title, amount):
         if not found:
             return
-        name = self.names["task"][task]
-        self.put(f'<g class="c{task % 8}"><title>{name} {title}</title>\n')
+        name = self.captions["task"][task]
+        self.put(f"{self.group(task)}<title>{escaped(name)} {title}</title>\n")
         x, y, width = self.x(found[0]), ROW + ROW * unit + 1, (found[1] - found[0]) * self.width
         self.box(f"d{task // 8}", x, y, width, 20)
         self.short("task", x + 4, y + 9, (width - 6) // 6, name)
@@ -226,7 +255,7 @@ class Drawing:
     def stock_row(self, band, row, state):
         y, limits = ROW * row, self.plant.states[state].limits or []
         levels = [self.stock(state, time) for time in range(self.plant.periods + 1)]
-        self.graph(band, y, self.names["state"][state], levels, limits)
+        self.graph(band, y, self.captions["state"][state], levels, limits)
         here = self.part(band, limits)
         for place in range(len(self.part(band, levels))):
             time = BAND * band + place
@@ -237,15 +266,31 @@ class Drawing:
     def load_row(self, band, row, utility):
         y, limits = ROW * row, self.plant.utilities[utility].limits
         levels = [self.load(utility, period) for period in range(self.plant.periods)]
-        self.graph(band, y, self.names["utility"][utility], levels, limits)
+        self.graph(band, y, self.captions["utility"][utility], levels, limits)
         here = self.part(band, limits)
         for place in range(len(here)):
             self.flag(y, place, [self.new_limit(here, place)])
+
+    # ------------------------------------------------------------ days and hours
+
+    def clock(self, band, y):
+        """The row below a band: the hour of each of its times, and the day at its first time and wherever it changes."""
+        at, first = self.plant.calendar.at, BAND * band
+        self.fitted("name", 0, y + 15, 20, str(at(first)))
+        for place in range(self.periods_in(band) + 1):
+            moment = at(first + place)
+            if not place or moment.day != at(first + place - 1).day:
+                self.words("time", self.x(place), y + 9, moment.day_text())
+            self.words("time", self.x(place), y + 19, moment.hour_text())
 
     # ------------------------------------------------------------ the whole
 
     def band_rows(self):
         return 1 + len(self.plant.units) + self.rows(len(self.touched)) + self.rows(len(self.plant.utilities))
+
+    def band_height(self):
+        """A band, the row of days and hours where the plant has a calendar, and a row before the next one."""
+        return ROW * (self.band_rows() + (self.plant.calendar is not None) + 1)
 
     def band(self, band, y):
         self.put(f'<g transform="translate(0 {y})">\n')
@@ -261,13 +306,15 @@ class Drawing:
             self.part_head(band, ROW * row, "load")
         for utility in range(len(self.plant.utilities)):
             self.load_row(band, row + 1 + utility, utility)
+        if self.plant.calendar:
+            self.clock(band, ROW * self.band_rows())
         self.put("</g>\n")
 
     def draw(self):
         width = LEFT + self.width * (min(BAND, self.plant.periods) + 1)
         line = max(1, width // 240)
         head = ROW + ROW * ((len(self.plant.tasks) + line - 1) // line)
-        height = head + self.bands * ROW * (self.band_rows() + 1)
+        height = head + self.bands * self.band_height()
         self.put(f'<svg xmlns="http://www.w3.org/2000/svg" viewBox="0 0 {width + 32} {height + 16}" ')
         self.put(f'width="{width + 32}" height="{height + 16}">\n{STYLE}')
         self.put(f'<rect class="page" x="0" y="0" width="{width + 32}" height="{height + 16}"/>\n')
@@ -282,14 +329,14 @@ class Drawing:
         self.box("pole", 600, 2, 2, 20)
         self.box("cloth", 600, 2, 24, 11)
         self.words("flag", 630, 16, "receipt +, delivery -")
-        for task, name in enumerate(self.names["task"]):
+        for task, name in enumerate(self.captions["task"]):
             x, y = 240 * (task % line), ROW + ROW * (task // line)
-            self.put(f'<g class="c{task % 8}">')
+            self.put(self.group(task))
             self.box(f"d{task // 8}", x + 2, y + 3, 24, 16)
-            self.words("task", x + 32, y + 14, name)
+            self.fitted("task", x + 32, y + 14, 34, name)
             self.put("</g>\n")
         for band in range(self.bands):
-            self.band(band, head + band * ROW * (self.band_rows() + 1))
+            self.band(band, head + band * self.band_height())
         self.put("</g>\n</svg>\n")
         return "".join(self.out)
 

@@ -8,10 +8,9 @@ by one. It needs Python 3.11 and nothing else, and is no part of what is proved.
 """
 
 import sys
-import tomllib
 from pathlib import Path
 
-from plant_program import read_plant
+from plant_program import read_document, read_plant
 
 HEADS = {
     "batches": "unit,task,start,end,quanta,mass,cost,changeover",
@@ -22,9 +21,14 @@ HEADS = {
 }
 
 
+def head_of(kind, has_calendar):
+    """The head line of a table: batches have dates besides, where the plant has a calendar."""
+    return HEADS[kind] + ",from,to" * (kind == "batches" and has_calendar)
+
+
 def names_of(data, table):
     """The names of a table's items, in the order of the file."""
-    return [item["name"] for item in tomllib.loads(data.decode()).get(table, [])]
+    return [item["name"] for item in read_document(data.decode("utf-8-sig")).get(table, [])]
 
 
 class Tables:
@@ -80,7 +84,8 @@ class Tables:
             unit, period, task, quanta = start
             cost = next(run.cost for run in self.plant.runs if (run.task, run.unit) == (task, unit))
             mass = quanta * self.plant.tasks[task].quantum
-            yield self.units[unit], self.tasks[task], period, self.end(start), quanta, mass, cost, self.change(start)[1]
+            dates = [self.plant.calendar.at(time) for time in (period, self.end(start))] if self.plant.calendar else []
+            yield self.units[unit], self.tasks[task], period, self.end(start), quanta, mass, cost, self.change(start)[1], *dates
 
     def stocks(self):
         for place, name in enumerate(self.states):
@@ -119,7 +124,8 @@ class Tables:
     def text(self, kind):
         """The whole table."""
         lines = getattr(self, "units_lines" if kind == "units" else kind)()
-        return "".join(",".join(map(str, line)) + "\n" for line in [(HEADS[kind],), *lines])
+        head = head_of(kind, self.plant.calendar is not None)
+        return "".join(",".join(map(str, line)) + "\n" for line in [(head,), *lines])
 
 
 if __name__ == "__main__":

@@ -8,7 +8,9 @@ import tomllib
 from collections import Counter
 from dataclasses import dataclass, field, replace
 from fractions import Fraction
+from itertools import count
 from re import ASCII, DOTALL, compile, fullmatch
+from unicodedata import category
 
 BILLION, MILLION = 10**9, 10**6
 GREATEST_DEPTH = 80
@@ -31,12 +33,14 @@ class State:
     limits: list | None  # what may be in stock at each time 0 to H, None where there is no limit
     price: int
     holding: int
+    label: str = ""
 
 
 @dataclass
 class Utility:
     limits: list  # what is there in each period
     rates: list  # what a unit of it costs in each period
+    label: str = ""
 
 
 @dataclass
@@ -50,6 +54,8 @@ class Draw:
 class Task:
     name: str
     quantum: int
+    label: str = ""
+    colour: str = ""
     inputs: list = field(default_factory=list)  # (state, mass units of a quantum)
     outputs: list = field(default_factory=list)  # (state, mass units of a quantum, delay)
     draws: list = field(default_factory=list)
@@ -70,12 +76,64 @@ class Run:
 
 
 @dataclass
+class Moment:
+    """A date and a time of day, in whole seconds and of no zone."""
+
+    year: int
+    month: int
+    day: int
+    hour: int
+    minute: int
+    second: int
+
+    def later(self, minutes):
+        """The moment so many minutes later, by the Gregorian calendar."""
+        whole = self.hour * 60 + self.minute + minutes
+        year, month, day = self.year, self.month, self.day
+        for _ in range(whole // 1440):
+            day += 1
+            if day > days_in(year, month):
+                month, day = month + 1, 1
+            if month > 12:
+                year, month = year + 1, 1
+        return Moment(year, month, day, whole // 60 % 24, whole % 60, self.second)
+
+    def day_text(self):
+        return f"{self.month:02}-{self.day:02}"
+
+    def hour_text(self):
+        return f"{self.hour:02}:{self.minute:02}"
+
+    def __str__(self):
+        return f"{self.year:04}-{self.day_text()}T{self.hour_text()}:{self.second:02}"
+
+
+def days_in(year, month):
+    """How many days a month has."""
+    if month == 2:
+        return 29 if year % 4 == 0 and (year % 100 != 0 or year % 400 == 0) else 28
+    return 30 if month in (4, 6, 9, 11) else 31
+
+
+@dataclass
+class Calendar:
+    start: Moment  # what the clock shows at time 0
+    minutes: int  # of a period
+
+    def at(self, time):
+        """What the clock shows at a time."""
+        return self.start.later(self.minutes * time)
+
+
+@dataclass
 class Plant:
     periods: int
     is_large: bool = False  # of version 3
+    calendar: Calendar | None = None
     states: list = field(default_factory=list)
     utilities: list = field(default_factory=list)
     units: list = field(default_factory=list)
+    unit_labels: list = field(default_factory=list)
     lasts: list = field(default_factory=list)  # (task, until) for each unit, or None: the batch that held it before the plan
     tasks: list = field(default_factory=list)
     runs: list = field(default_factory=list)
@@ -138,6 +196,30 @@ class Table:
         earlier.append(name)
         return name
 
+    def label(self):
+        """What the item is called before people, or nothing: 1 to 64 bytes without control characters, and such as XML may have."""
+        if "label" not in self.keys:
+            return ""
+        label = self.get("label", [str])
+        if not 1 <= len(label.encode()) <= 64 or any(category(it) == "Cc" or it in "\ufffe\uffff" for it in label):
+            self.refuse(24, "label")
+        return label
+
+    def colour(self):
+        """A colour, or nothing."""
+        if "colour" not in self.keys:
+            return ""
+        colour = self.get("colour", [str])
+        if not fullmatch(r"#[0-9A-Fa-f]{6}", colour, ASCII):
+            self.refuse(25, "colour")
+        return colour
+
+    def calendar(self):
+        """The clock of the plant, or nothing: `start` and `minutes` need one another."""
+        if "start" not in self.keys and "minutes" not in self.keys:
+            return None
+        return Calendar(self.get("start", [Moment]), self.whole("minutes", 1, 10_080))
+
     def named(self, key, names):
         """The number of the item that the key names."""
         name = self.get(key, [str])
@@ -187,10 +269,11 @@ class PlantFile:
         self.version = version_of(document)
         is_second = self.version > 1
         arrays = "state utility unit task run gap receipt delivery".split() + ["outage"] * is_second
-        if not document.keys() <= {"version", "periods", *arrays}:
+        if not document.keys() <= {"version", "periods", *["start", "minutes"] * (self.version == 3), *arrays}:
             self.top.refuse(3)
         self.top.whole("version", 1, self.version)
         self.plant = Plant(self.top.whole("periods", 1, 336 if is_second else 96), self.version == 3)
+        self.plant.calendar = self.top.calendar()
         self.names = {"state": [], "utility": [], "unit": [], "task": []}
         self.held_last = []  # for each unit its table and `until` where it names a task, which is read behind the units
         for array in arrays:
@@ -202,7 +285,7 @@ class PlantFile:
         """How many items an array of the top has at most."""
         return MOST[array][self.version == 3]
 
-    def tables(self, array, most, keys, of_second="", within=None):
+    def tables(self, array, most, keys, of_second="", of_third="", within=None):
         """The tables of an array, each with no other keys than these; `within` is the table that an inner array stands in."""
         holder = within or self.top
         if within is None and array not in holder.keys:
@@ -210,7 +293,7 @@ class PlantFile:
         items = holder.get(array, [list])
         if len(items) > most:
             holder.refuse(14, array)
-        known = keys.split() + of_second.split() * (self.version > 1)
+        known = keys.split() + of_second.split() * (self.version > 1) + of_third.split() * (self.version == 3)
         for number, item in enumerate(items, 1):
             table = Table(item, array, within.item if within else number, number if within else 0)
             if type(item) is not dict:
@@ -220,22 +303,22 @@ class PlantFile:
             yield table
 
     def read_state(self):
-        for table in self.tables("state", self.most("state"), "name initial limit price holding", "limits"):
-            name, initial = table.own_name(self.names["state"]), table.whole("initial", 0, BILLION, 0)
+        for table in self.tables("state", self.most("state"), "name initial limit price holding", "limits", "label"):
+            name, label, initial = table.own_name(self.names["state"]), table.label(), table.whole("initial", 0, BILLION, 0)
             limits = table.limits(self.plant.periods + 1, False)
             money = [table.whole(key, -MILLION, MILLION, 0) for key in ("price", "holding")]
-            self.plant.states.append(State(name, initial, limits, *money))
+            self.plant.states.append(State(name, initial, limits, *money, label))
 
     def read_utility(self):
-        of_third = " rates" * (self.version == 3)
-        for table in self.tables("utility", self.most("utility"), "name limit rate", "limits" + of_third):
+        for table in self.tables("utility", self.most("utility"), "name limit rate", "limits", "rates label"):
             table.own_name(self.names["utility"])
-            limits = table.limits(self.plant.periods, True)
-            self.plant.utilities.append(Utility(limits, table.rates(self.plant.periods)))
+            label, limits = table.label(), table.limits(self.plant.periods, True)
+            self.plant.utilities.append(Utility(limits, table.rates(self.plant.periods), label))
 
     def read_unit(self):
-        for table in self.tables("unit", self.most("unit"), "name" + " last until" * (self.version == 3)):
+        for table in self.tables("unit", self.most("unit"), "name", of_third="label last until"):
             self.plant.units.append(table.own_name(self.names["unit"]))
+            self.plant.unit_labels.append(table.label())
             has_last = "last" in table.keys and table.get("last", [str]) is not None
             until = table.whole("until", -336, self.plant.periods, 0)
             if "until" in table.keys and not has_last:
@@ -247,8 +330,9 @@ class PlantFile:
         self.plant.lasts = [it and (it[0].named("last", self.names["task"]), it[1]) for it in self.held_last]
 
     def read_task(self):
-        for table in self.tables("task", self.most("task"), "name quantum input output draw"):
-            task = Task(table.own_name(self.names["task"]), table.whole("quantum", 1, MILLION))
+        for table in self.tables("task", self.most("task"), "name quantum input output draw", of_third="label colour"):
+            name, label, colour = table.own_name(self.names["task"]), table.label(), table.colour()
+            task = Task(name, table.whole("quantum", 1, MILLION), label, colour)
             task.inputs = self.side(table, task, "input", "state part")
             task.outputs = self.side(table, task, "output", "state part delay")
             task.draws = self.draws(table, task)
@@ -325,15 +409,37 @@ def is_in_range(value, depth=0):
     return type(value) is not int or -(2**63) <= value < 2**63
 
 
-TOKEN = compile(r'"""(?:\\.|[^\\])*?"{3,5}|\'\'\'.*?\'{3,5}|"(?:\\.|[^"\\\n])*"|\'[^\'\n]*\'|(?:[ \t\n]|\r\n|#[^\n]*)+|.', DOTALL)
+DATE, TIME = r"\d{4}-\d\d-\d\d", r"\d\d:\d\d(?::\d\d(?:\.\d+)?)?"
+WHEN = rf"{DATE}(?:[Tt ]{TIME}(?:[Zz]|[+-]\d\d:\d\d)?)?|{TIME}"
+TOKEN = compile(r'"""(?:\\.|[^\\])*?"{3,5}|\'\'\'.*?\'{3,5}|"(?:\\.|[^"\\\n])*"|\'[^\'\n]*\'|(?<![\w.+-])(?:' + WHEN
+                + r')(?![\w.:+-])|(?:[ \t\n]|\r\n|#[^\n]*)+|.', DOTALL | ASCII)
+ESCAPE = compile(r"\\(?:x([0-9A-Fa-f]{2})|.)", DOTALL)
 
 
-def on_one_line(text):
-    """The text with each inline table on one line: `tomllib` reads TOML 1.0, and 1.1 allows more there.
+def when_of(text):
+    """What a date, a time of day or both hold: a Moment, or False where the two are not there, in whole seconds and of no zone; None
+    where there is no such day or time."""
+    date, time, zone = fullmatch(rf"({DATE})?[Tt ]?({TIME})?([Zz]|[+-]\d\d:\d\d)?", text, ASCII).groups()
+    year, month, day = map(int, (date or "2000-01-01").split("-"))
+    clock, _, fraction = (time or "00:00").partition(".")
+    hour, minute, *seconds = map(int, clock.split(":"))
+    zone_hour, zone_minute = map(int, zone[1:].split(":")) if zone and zone not in "Zz" else (0, 0)
+    is_day = 1 <= month <= 12 and 1 <= day <= days_in(year, month)
+    if not is_day or hour > 23 or minute > 59 or seconds > [60] or zone_hour > 23 or zone_minute > 59:
+        return None
+    is_whole = seconds and seconds < [60] and not fraction[:9].strip("0")
+    return Moment(year, month, day, hour, minute, *seconds) if date and time and not zone and is_whole else False
 
-    That is new lines and comments after `{`, beside a comma and before `}`, and a comma before `}`.
+
+def as_it_is_read(text):
+    """The text as `tomllib` reads it, which is of TOML 1.0 and 1.1 allows more, and what its dates and times hold, by the number that
+    stands in their place.
+
+    In an inline table there may be new lines and comments after `{`, beside a comma and before `}`, and a comma before `}`. Seconds may be
+    left out, or be 60, and there is a year 0. In a text `\\e` and `\\xHH` are escapes.
     """
-    parts, stack, before = [], [], ""
+    parts, stack, before, held = [], [], "", {}
+    own = next(it for it in (f"0.{number:03}" for number in count()) if it not in text)
     tokens = TOKEN.findall(text)
     for place, token in enumerate(tokens):
         after = tokens[place + 1][0] if place + 1 < len(tokens) else ""
@@ -343,13 +449,24 @@ def on_one_line(text):
         elif in_table and token == "," and before not in "{,":
             ends = next((it for it in tokens[place + 1 :] if it[0] not in " \t\r\n#"), "")
             token = "" if ends == "}" else ","
+        elif fullmatch(WHEN, token, ASCII) and before in ("=", "[", ",") and when_of(token) is not None:
+            held[own + str(place)] = when_of(token)
+            token = own + str(place)
+        elif token[0] == '"':
+            token = ESCAPE.sub(lambda it: f"\\u00{it[1] or '1b'}" if it[1] or it[0] == "\\e" else it[0], token)
         if token in ("{", "["):
             stack.append(token)
         elif token in ("}", "]") and stack:
             stack.pop()
         before = before if is_gap or not token else token
         parts.append(token)
-    return "".join(parts)
+    return "".join(parts), held
+
+
+def read_document(text):
+    """The document of a text, in which a Moment stands for what may be one."""
+    text, held = as_it_is_read(text)
+    return tomllib.loads(text, parse_float=lambda number: held[number] if number in held else float(number))
 
 
 def document_of(data):
@@ -358,7 +475,7 @@ def document_of(data):
     if len(data) > most:
         Table({}, "top").refuse(1)
     try:
-        document = tomllib.loads(on_one_line(data.decode("utf-8-sig")))
+        document = read_document(data.decode("utf-8-sig"))
     except (UnicodeDecodeError, tomllib.TOMLDecodeError, RecursionError):
         Table({}, "top").refuse(1 if is_long else 2)
     if not is_in_range(document):

@@ -47,7 +47,7 @@ class Run:
 
     def conflict(self):
         """Deliveries that can't be met together, and whether outages are to blame."""
-        return orders.said(whole_lines(self.out), self.form["PLANT"], self.form["BUDGET"])
+        return orders.said(whole_lines(self.out), Plant(self.root()), self.form["PLANT"], self.form["BUDGET"])
 
     def broken(self, words, before=None):
         """What a plan breaks, of which these words speak."""
@@ -95,9 +95,10 @@ class Run:
 
     def no_state(self):
         """STATE has no limits, or is no state."""
-        states, name = Plant(self.root()).states, self.form["STATE"]
-        limited = [it for it, table in states.items() if "limit" in table.held or "limits" in table.held]
-        why = f"the state `{name}` has no limit" if name in states else f"the plant has no state `{short(name, 40)}`{meant(name, states)}"
+        plant, name = Plant(self.root()), self.form["STATE"]
+        states = plant.states
+        limited = [plant.called("state", it) for it, table in states.items() if "limit" in table.held or "limits" in table.held]
+        why = f"the state `{plant.called('state', name)}` has no limit" if name in states else f"the plant has no state `{short(name, 40)}`{meant(name, states)}"
         return sentences(why, f"With limits are {listed(limited)}" if limited else "No state of the plant has a limit")
 
     def status_6(self):

@@ -1,6 +1,6 @@
 //! As much TOML as plant files have, in the place of the kit's `toml`: comments, tables, arrays of tables, dotted and quoted
-//! keys, inline tables, arrays, texts of one line, numbers, true and false. It refuses dates and texts of several lines, and
-//! takes a few texts that TOML refuses, as a table that is opened twice.
+//! keys, inline tables, arrays, texts, numbers, dates and times, true and false. It takes a few texts that TOML refuses, as a
+//! table that is opened twice.
 #![allow(warnings)]
 
 use kit::alloc::{AllocError, Global};
@@ -18,8 +18,48 @@ pub enum Value {
     Integer(i64),
     Float(f64),
     Boolean(bool),
+    Datetime(Datetime),
     Array(List<Value>),
     Table(Table),
+}
+
+#[derive(Clone, Copy, Debug, PartialEq, Eq, PartialOrd, Ord)]
+pub struct Datetime {
+    pub date: Option<Date>,
+    pub time: Option<Time>,
+    pub offset: Option<Offset>,
+}
+
+#[derive(Clone, Copy, Debug, PartialEq, Eq, PartialOrd, Ord)]
+pub struct Date {
+    pub year: u16,
+    pub month: u8,
+    pub day: u8,
+}
+
+#[derive(Clone, Copy, Debug, PartialEq, Eq, PartialOrd, Ord)]
+pub struct Time {
+    pub hour: u8,
+    pub minute: u8,
+    pub second: Option<u8>,
+    pub nanosecond: Option<u32>,
+}
+
+#[derive(Clone, Copy, Debug, PartialEq, Eq, PartialOrd, Ord)]
+pub enum Offset {
+    Z,
+    Custom { minutes: i16 },
+}
+
+pub mod value {
+    pub use crate::{Date, Datetime, Offset, Table, Time, Value};
+    pub type Array = kit::vec::Vec<Value>;
+}
+
+impl From<Datetime> for Value {
+    fn from(moment: Datetime) -> Value {
+        Value::Datetime(moment)
+    }
 }
 
 pub struct Error;
@@ -70,6 +110,13 @@ impl Value {
     pub fn as_str(&self) -> Option<&str> {
         match self {
             Value::String(text) => Some(text.as_str()),
+            _ => None,
+        }
+    }
+
+    pub fn as_datetime(&self) -> Option<&Datetime> {
+        match self {
+            Value::Datetime(moment) => Some(moment),
             _ => None,
         }
     }
@@ -239,7 +286,10 @@ impl<'a> Reader<'a> {
         if self.takes("{") {
             return self.inline();
         }
-        let word = self.word(|c| c.is_ascii_alphanumeric() || "+-_.:".contains(c));
+        let word = self.number();
+        if word.len() > 4 && word.is_ascii() && (word.as_bytes()[4] == b'-' || word.as_bytes()[2] == b':') {
+            return moment(word).map(Value::Datetime).ok_or(Error);
+        }
         match word {
             "true" => Ok(Value::Boolean(true)),
             "false" => Ok(Value::Boolean(false)),
@@ -249,6 +299,18 @@ impl<'a> Reader<'a> {
                 _ => Err(Error),
             },
         }
+    }
+
+    /// The letters of a number, of a date or of a word; between a date and a time may stand a blank.
+    fn number(&mut self) -> &'a str {
+        let (whole, holds) = (self.rest, |c: char| c.is_ascii_alphanumeric() || "+-_.:".contains(c));
+        let mut long = self.word(holds).len();
+        let mut next = self.rest.bytes();
+        if long == 10 && whole.as_bytes()[4] == b'-' && next.next() == Some(b' ') && next.next().is_some_and(|c| c.is_ascii_digit()) {
+            self.rest = &self.rest[1..];
+            long += 1 + self.word(holds).len();
+        }
+        &whole[..long]
     }
 
     fn array(&mut self) -> Result<Value, Error> {
@@ -281,33 +343,141 @@ impl<'a> Reader<'a> {
         Ok(Value::Table(table))
     }
 
-    /// A text of one line in quotes of either kind.
+    /// A text in quotes of either kind, once or three times.
     fn text(&mut self) -> Result<String, Error> {
+        let quote = if self.rest.starts_with('"') { "\"" } else { "'" };
+        let is_long = self.takes(&quote.repeat(3));
+        let close = if is_long { quote.repeat(3) } else { quote.into() };
+        if is_long {
+            let _ = self.takes("\n") || self.takes("\r\n");
+        } else {
+            self.takes(quote);
+        }
         let mut text = String::new();
-        let mut chars = self.rest.char_indices();
-        let quote = chars.next().ok_or(Error)?.1;
-        while let Some((at, c)) = chars.next() {
-            match c {
-                '\n' => return Err(Error),
-                '\\' if quote == '"' => match chars.next().ok_or(Error)?.1 {
-                    'n' => text.push('\n'),
-                    't' => text.push('\t'),
-                    c @ ('"' | '\\') => text.push(c),
-                    _ => return Err(Error),
-                },
-                c if c == quote => {
-                    self.rest = &self.rest[at + 1..];
-                    return Ok(text);
+        loop {
+            if self.takes(&close) {
+                while is_long && self.takes(quote) {
+                    text.push_str(quote);
                 }
+                return Ok(text);
+            }
+            let c = self.rest.chars().next().ok_or(Error)?;
+            self.rest = &self.rest[c.len_utf8()..];
+            match c {
+                '\\' if quote == "\"" => self.escaped(&mut text, is_long)?,
+                '\n' if is_long => text.push(c),
+                '\t' => text.push(c),
+                c if c.is_ascii_control() => return Err(Error),
                 c => text.push(c),
             }
         }
-        Err(Error)
+    }
+
+    /// What stands behind a backslash.
+    fn escaped(&mut self, text: &mut String, is_long: bool) -> Result<(), Error> {
+        let c = self.rest.chars().next().ok_or(Error)?;
+        self.rest = &self.rest[c.len_utf8()..];
+        let long = match c {
+            'x' => 2,
+            'u' => 4,
+            'U' => 8,
+            _ => 0,
+        };
+        if long > 0 {
+            let digits = self.rest.get(..long).ok_or(Error)?;
+            let code = if digits.contains('+') { Err(Error) } else { u32::from_str_radix(digits, 16).map_err(|_| Error) };
+            text.push(code.ok().and_then(char::from_u32).ok_or(Error)?);
+            self.rest = &self.rest[long..];
+            return Ok(());
+        }
+        match c {
+            'n' => text.push('\n'),
+            't' => text.push('\t'),
+            'r' => text.push('\r'),
+            'b' => text.push('\x08'),
+            'f' => text.push('\x0C'),
+            'e' => text.push('\x1B'),
+            c @ ('"' | '\\') => text.push(c),
+            '\n' if is_long => self.rest = self.rest.trim_start_matches([' ', '\t', '\r', '\n']),
+            _ => return Err(Error),
+        }
+        Ok(())
     }
 }
 
-/// A whole number in tens, with a sign and low lines between its figures.
+/// The date, the time or both of a text.
+fn moment(text: &str) -> Option<Datetime> {
+    let mut rest = text;
+    if text.as_bytes()[2] == b':' {
+        let time = time(&mut rest)?;
+        return rest.is_empty().then_some(Datetime { date: None, time: Some(time), offset: None });
+    }
+    let date = Some(date(&mut rest)?);
+    let Some(behind) = rest.strip_prefix(['T', 't', ' ']) else {
+        return rest.is_empty().then_some(Datetime { date, time: None, offset: None });
+    };
+    rest = behind;
+    let time = Some(time(&mut rest)?);
+    let offset = if rest.is_empty() { None } else { Some(offset(rest)?) };
+    Some(Datetime { date, time, offset })
+}
+
+fn two_digits(rest: &mut &str) -> Option<u8> {
+    let digits = rest.get(..2).filter(|two| two.bytes().all(|c| c.is_ascii_digit()))?;
+    *rest = &rest[2..];
+    digits.parse().ok()
+}
+
+fn behind(rest: &mut &str, mark: char) -> Option<u8> {
+    *rest = rest.strip_prefix(mark)?;
+    two_digits(rest)
+}
+
+fn date(rest: &mut &str) -> Option<Date> {
+    let year = 100 * u16::from(two_digits(rest)?) + u16::from(two_digits(rest)?);
+    let (month, day) = (behind(rest, '-')?, behind(rest, '-')?);
+    let is_leap_year = year % 4 == 0 && (year % 100 != 0 || year % 400 == 0);
+    let days = match month {
+        2 if is_leap_year => 29,
+        2 => 28,
+        4 | 6 | 9 | 11 => 30,
+        _ => 31,
+    };
+    ((1..=12).contains(&month) && (1..=days).contains(&day)).then_some(Date { year, month, day })
+}
+
+fn time(rest: &mut &str) -> Option<Time> {
+    let (hour, minute) = (two_digits(rest)?, behind(rest, ':')?);
+    let second = if rest.starts_with(':') { Some(behind(rest, ':')?) } else { None };
+    let mut nanosecond = None;
+    if let (Some(_), Some(digits)) = (second, rest.strip_prefix('.')) {
+        let long = digits.bytes().take_while(|c| c.is_ascii_digit()).count();
+        let nine: String = digits[..long].chars().chain("000000000".chars()).take(9).collect();
+        nanosecond = if long > 0 { Some(nine.parse().ok()?) } else { return None };
+        *rest = &digits[long..];
+    }
+    (hour < 24 && minute < 60 && second.unwrap_or(0) <= 60).then_some(Time { hour, minute, second, nanosecond })
+}
+
+fn offset(text: &str) -> Option<Offset> {
+    if text == "Z" || text == "z" {
+        return Some(Offset::Z);
+    }
+    let (sign, mut rest) = if text.starts_with('-') { (-1, &text[1..]) } else { (1, text.strip_prefix('+')?) };
+    let (hours, minutes) = (two_digits(&mut rest)?, behind(&mut rest, ':')?);
+    let minutes = (hours < 24 && minutes < 60 && rest.is_empty()).then_some(60 * i16::from(hours) + i16::from(minutes))?;
+    Some(Offset::Custom { minutes: sign * minutes })
+}
+
+/// A whole number: in tens with a sign, or in sixteens, eights or twos, with low lines between its figures.
 fn whole(word: &str) -> Result<i64, Error> {
+    for (head, base) in [("0x", 16), ("0o", 8), ("0b", 2)] {
+        if let Some(figures) = word.strip_prefix(head) {
+            let is_whole = !figures.starts_with(['+', '-', '_']) && !figures.ends_with('_') && !figures.contains("__");
+            let number = i64::from_str_radix(&figures.replace('_', ""), base).map_err(|_| Error);
+            return if is_whole { number } else { Err(Error) };
+        }
+    }
     let figures = word.trim_start_matches(['+', '-']);
     let is_long = figures.len() > 1 && figures.starts_with('0');
     if word.len() > figures.len() + 1 || figures.is_empty() || is_long || figures.starts_with('_') || figures.ends_with('_') {
@@ -367,7 +537,8 @@ fn put_head(text: &mut String, head: &str) {
 
 fn put_value(text: &mut String, value: &Value) {
     match value {
-        Value::String(word) => text.push_str(&format!("{:?}", word.as_str())),
+        Value::String(word) => put_text(text, word.as_str()),
+        Value::Datetime(moment) => put_moment(text, moment),
         Value::Integer(number) => text.push_str(&number.to_string()),
         Value::Float(number) => text.push_str(&format!("{number:?}")),
         Value::Boolean(truth) => text.push_str(&truth.to_string()),
@@ -380,5 +551,42 @@ fn put_value(text: &mut String, value: &Value) {
             text.push(']');
         }
         Value::Table(_) => unreachable!(),
+    }
+}
+
+/// A text in the first form that needs no escape, or else within double quotes; all texts are of one line.
+fn put_text(text: &mut String, word: &str) {
+    let (slash, double, single) = (word.contains('\\'), word.contains('"'), word.contains('\''));
+    if !word.contains(|c: char| c.is_ascii_control()) {
+        if !slash && !double {
+            return text.push_str(&format!("\"{word}\""));
+        } else if !single {
+            return text.push_str(&format!("'{word}'"));
+        } else if !slash && !word.contains("\"\"\"") {
+            return text.push_str(&format!("\"\"\"{word}\"\"\""));
+        } else if !word.contains("'''") {
+            return text.push_str(&format!("'''{word}'''"));
+        }
+    }
+    text.push('"');
+    for c in word.chars() {
+        match c {
+            '"' | '\\' => text.extend(['\\', c]),
+            '\t' => text.push_str("\\t"),
+            c if c.is_ascii_control() => text.push_str(&format!("\\u00{:02X}", c as u32)),
+            c => text.push(c),
+        }
+    }
+    text.push('"');
+}
+
+/// A date and a time without an offset.
+fn put_moment(text: &mut String, moment: &Datetime) {
+    if let Some(date) = moment.date {
+        text.push_str(&format!("{:04}-{:02}-{:02}", date.year, date.month, date.day));
+    }
+    if let Some(time) = moment.time {
+        let second = time.second.unwrap_or(0);
+        text.push_str(&format!("T{:02}:{:02}:{second:02}", time.hour, time.minute));
     }
 }

@@ -160,8 +160,8 @@ def rows(text):
 
 
 def cell(text):
-    """What a cell of a table holds: a name begins with a letter, a number does not, and nothing may stand there."""
-    return None if text == "" else text if text[0].isalpha() else int(text)
+    """What a cell of a table holds: a number, a name or a date; nothing may stand there."""
+    return None if text == "" else int(text) if text.lstrip("-").isdigit() else text
 
 
 def numbered(lines):

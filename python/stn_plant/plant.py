@@ -1,10 +1,12 @@
 """Plants as records, with the names of docs/formats.md (`from_` is its `from`), and the questions that one can ask of them.
 
 Masses are whole numbers of mass units, money is in money units, times and periods count from 0; which mass, money and hours these
-stand for, each plant file chooses. Ranges and names are judged by the program, in each question.
+stand for, each plant file chooses. Ranges and names are judged by the program, in each question. A `label` (version 3) is what people
+call a state, a utility, a unit or a task; pictures show it in the place of the name.
 """
 import dataclasses, tomllib
 from dataclasses import dataclass, field
+from datetime import datetime
 from pathlib import Path
 
 from . import slices, toml_text
@@ -25,6 +27,7 @@ class State:
     """
 
     name: str
+    label: str | None = field(default=None, kw_only=True)
     initial: int = 0
     limit: int | None = None
     limits: list[int] | None = None
@@ -41,6 +44,7 @@ class Utility:
     """
 
     name: str
+    label: str | None = field(default=None, kw_only=True)
     limit: int | None = None
     limits: list[int] | None = None
     rate: int = 0
@@ -56,6 +60,7 @@ class Unit:
     """
 
     name: str
+    label: str | None = field(default=None, kw_only=True)
     last: str | None = None
     until: int = 0
 
@@ -88,9 +93,12 @@ class Draw:
 
 @dataclass
 class Task:
-    """What a batch does. quantum: mass units of one quantum; a batch is a whole number of quanta."""
+    """What a batch does. quantum: mass units of one quantum; a batch is a whole number of quanta. label: what people call it, and
+    colour: how its batches are drawn, as `"#1e90ff"` (version 3)."""
 
     name: str
+    label: str | None = field(default=None, kw_only=True)
+    colour: str | None = field(default=None, kw_only=True)
     quantum: int
     input: list[Input] = field(default_factory=list)
     output: list[Output] = field(default_factory=list)
@@ -149,9 +157,14 @@ class Outage:
 
 @dataclass
 class Plant:
-    """A plant over a horizon of `periods` equal periods. version: of the plant file that it is written as."""
+    """A plant over a horizon of `periods` equal periods. version: of the plant file that it is written as.
+
+    start: what the clock shows at time 0, a date and a time of day of no zone; minutes: how long a period takes (version 3).
+    """
 
     periods: int
+    start: datetime | None = field(default=None, kw_only=True)
+    minutes: int | None = field(default=None, kw_only=True)
     state: list[State] = field(default_factory=list)
     utility: list[Utility] = field(default_factory=list)
     unit: list[Unit] = field(default_factory=list)
@@ -300,7 +313,7 @@ class Plant:
 
     def table(self, plan, table="batches", timeout=None):
         """A table of a feasible plan, `batches`, `stocks`, `loads`, `units` or `deliveries`: a dictionary for each line, by its head,
-        of names and whole numbers, and None where nothing stands."""
+        of names and whole numbers, and None where nothing stands; dates are texts, as `2026-12-24T18:30:00`."""
         with Question(self, timeout) as question:
             words = [] if table == "batches" else [table]
             return rows(question.ask("table", "plant.toml", question.plan(plan), *words).out)

@@ -5,6 +5,7 @@ The first line of a table names its columns, by the keys of docs/formats.md; the
 mean, and whether they are a plant, the program says; a refusal names the table's line and column.
 """
 import csv, dataclasses, difflib, os, re, shutil, tempfile
+from datetime import datetime, timedelta
 from fractions import Fraction
 from pathlib import Path
 
@@ -24,9 +25,9 @@ DECIMAL = re.compile(r"[+-]?[0-9]{0,30}\.?[0-9]{1,30}(?:[eE][+-]?[0-9]{1,3})?")
 
 
 def columns(table):
-    """The columns of a table, each with its type: `whole`, `list`, `part` or `text`."""
+    """The columns of a table, each with its type: `whole`, `list`, `part`, `date` or `text`."""
     if table == "plant":
-        return {"version": "whole", "periods": "whole"}
+        return {"version": "whole", "periods": "whole", "start": "date", "minutes": "whole"}
     cls = INNER.get(table) or OUTER[table]
     found = {"task": "text"} if table in INNER else {}
     for each in dataclasses.fields(cls):
@@ -86,6 +87,8 @@ class Book:
 
     def value(self, cell, kind, table, number, name):
         """A cell as a value of a plant file; what is none of its type is handed on as it is, for the program to refuse."""
+        if kind == "date":
+            return moment(cell)
         if not isinstance(cell, (str, int, float)):
             raise self.fault(f"the cell holds {cell!r}; a part such as 1/2 is to be written as a text, '1/2", table, number, name)
         if kind == "text":
@@ -104,7 +107,7 @@ class Book:
                 raise self.fault(f"there is no sheet `{name}`; it should have the columns {', '.join(TABLES[name])} (and may have no line)", name)
         top = [it for _, it in self.tables["plant"]]
         if len(top) != 1:
-            raise self.fault(f"the sheet has {len(top)} lines below its first, and one is wanted: version and periods", "plant")
+            raise self.fault(f"the sheet has {len(top)} lines below its first, and one is wanted: version, periods and what else the plant has", "plant")
         found = {"version": 2, **top[0]}
         for name in OUTER:
             items = [dict(it) for _, it in self.tables.get(name, [])]
@@ -165,6 +168,18 @@ def whole(cell):
         text = cell.strip()
         return int(text) if NUMBER.fullmatch(text) else whole(float(text)) if DECIMAL.fullmatch(text) else text
     return int(cell) if isinstance(cell, float) and cell.is_integer() else cell
+
+
+def moment(cell):
+    """A cell as a date with a time of day, where it is one; spreadsheets have such cells, and count them in parts of a second."""
+    try:
+        cell = datetime.fromisoformat(cell.strip()) if isinstance(cell, str) else cell
+    except ValueError:
+        return cell
+    if not isinstance(cell, datetime) or not cell.microsecond:
+        return cell
+    whole = (cell + timedelta(milliseconds=500)).replace(microsecond=0)
+    return whole if abs(whole - cell) <= timedelta(milliseconds=1) else cell
 
 
 def part(cell):
@@ -255,6 +270,8 @@ def cell(value):
     """What a cell shows of a value."""
     if isinstance(value, (list, tuple)):
         return " ".join(str(it) for it in value)
+    if isinstance(value, datetime):
+        return value.isoformat()
     return f"{value.numerator}/{value.denominator}" if isinstance(value, Fraction) else value
 
 
@@ -282,6 +299,9 @@ def write_workbook(plant, path):
         sheet = book.create_sheet(name)
         for row in rows:
             sheet.append(row)
+        # A text that begins with `=` is no formula.
+        for text in (it for row in sheet for it in row if isinstance(it.value, str)):
+            text.data_type = "s"
         sheet.freeze_panes = "A2"
     with whole_file(path) as file:
         book.save(file)

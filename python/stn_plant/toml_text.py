@@ -1,4 +1,5 @@
 """Writes a document of tables as TOML. (Python reads TOML, with `tomllib`, and does not write it.)"""
+from datetime import date, time
 from fractions import Fraction
 from numbers import Integral, Real
 
@@ -30,11 +31,13 @@ def value(held):
         return repr(float(held))
     if isinstance(held, str):
         return text(held)
+    if isinstance(held, (date, time)):
+        return held.isoformat()
     if isinstance(held, dict):
         return "{ " + ", ".join(f"{key} = {value(it)}" for key, it in held.items()) + " }"
     if isinstance(held, (list, tuple)):
         return "[" + ", ".join(value(it) for it in held) + "]"
-    raise TypeError(f"{held!r} is neither a number, a text, a list nor a table")
+    raise TypeError(f"{held!r} is neither a number, a text, a date, a list nor a table")
 
 
 def text(words):

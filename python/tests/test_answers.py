@@ -1,5 +1,6 @@
 """What the program answers, asked of the examples."""
 import tempfile, tomllib, unittest
+from datetime import datetime
 from fractions import Fraction
 from pathlib import Path
 
@@ -81,6 +82,19 @@ class Texts(unittest.TestCase):
         units = [{"name": "U", "last": "t", "until": 2}, {"name": "V", "last": "t"}, {"name": "W"}]
         self.assertEqual(tomllib.loads(plant.text()), {"version": 3, "periods": 3, "unit": units})
         self.assertEqual([record(Unit, it) for it in units], plant.unit)
+
+    def test_labels_colours_and_a_calendar(self):
+        noon = datetime(2026, 12, 24, 12)
+        plant = Plant(2, state=[State("s", label="Würze")], task=[Task("t", 5, label="煮る", colour="#1e90ff")], start=noon, minutes=60, version=3)
+        found = tomllib.loads(plant.text())
+        self.assertEqual((found["start"], found["minutes"], found["state"][0]["label"]), (noon, 60, "Würze"))
+        self.assertEqual((found["task"][0]["label"], found["task"][0]["colour"]), ("煮る", "#1e90ff"))
+        self.assertEqual(Plant.of_upgrade(plant.text()), plant)
+
+    def test_dates_in_a_table(self):
+        text = "unit,task,start,from\nU,make,0,2026-12-24T12:00:00\n,-x,-2,10000-01-01T00:00:00\n"
+        self.assertEqual(rows(text), [{"unit": "U", "task": "make", "start": 0, "from": "2026-12-24T12:00:00"},
+                                      {"unit": None, "task": "-x", "start": -2, "from": "10000-01-01T00:00:00"}])
 
 
 @needs_program

@@ -1,5 +1,6 @@
 """Plants as folders of CSV files and workbooks, both ways."""
 import tempfile, unittest
+from datetime import datetime
 from pathlib import Path
 from unittest import mock
 
@@ -92,8 +93,21 @@ class Columns(unittest.TestCase):
 
     def test_units_that_a_batch_held_before(self):
         plant = Plant(3, unit=[Unit("U", "t", -2), Unit("V", "t"), Unit("W")], version=3)
-        self.assertEqual(sheets.lines(plant)["unit"], [["name", "last", "until"], ["U", "t", -2], ["V", "t", None], ["W", None, None]])
-        self.assertEqual(sheets.TABLES["unit"], {"name": "text", "last": "text", "until": "whole"})
+        found = [["name", "label", "last", "until"], ["U", None, "t", -2], ["V", None, "t", None], ["W", None, None, None]]
+        self.assertEqual(sheets.lines(plant)["unit"], found)
+        self.assertEqual(sheets.TABLES["unit"], {"name": "text", "label": "text", "last": "text", "until": "whole"})
+
+    def test_labels_and_a_calendar(self):
+        plant = Plant(3, state=[State("s", label="a, \"b\" & ü")], start=datetime(2026, 12, 24, 18, 30), minutes=90, version=3)
+        self.assertEqual(sheets.lines(plant)["plant"], [["version", "periods", "start", "minutes"], [3, 3, "2026-12-24T18:30:00", 90]])
+        self.assertEqual(sheets.lines(plant)["state"][1][:2], ["s", "a, \"b\" & ü"])
+
+    def test_dates_in_cells(self):
+        noon = datetime(2026, 12, 24, 12)
+        for cell in ("2026-12-24T12:00:00", " 2026-12-24 12:00 ", noon, noon.replace(microsecond=600), datetime(2026, 12, 24, 11, 59, 59, 999_500)):
+            self.assertEqual(sheets.moment(cell), noon)
+        for cell in ("noon", 5, 1.5, noon.replace(microsecond=500_000)):
+            self.assertEqual(sheets.moment(cell), cell)
 
 
 class Faults(Room):
@@ -105,7 +119,7 @@ class Faults(Room):
 
     def test_a_sheet_is_missing(self):
         (self.room / "state.csv").unlink()
-        self.assert_fault("no sheet `state`.*columns name, initial", sheet="state")
+        self.assert_fault("no sheet `state`.*columns name, label, initial", sheet="state")
 
     def test_a_sheet_of_another_name(self):
         self.put("states", "name\n")

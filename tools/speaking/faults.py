@@ -1,10 +1,11 @@
 """What a fault of a plant file is: `refused plant KIND TABLE ITEM INNER KEY`."""
 from fractions import Fraction
 from math import gcd
+from unicodedata import category
 
 from speaking import fields
 from speaking.plant import Plant, fraction, held, rows, whole
-from speaking.texts import count, do, grouped, listed, means, meant, nth, sentences, short
+from speaking.texts import called, count, do, grouped, listed, means, meant, nth, sentences, short
 from speaking.toml_places import Document
 
 INNER = ("input", "output", "draw")
@@ -41,8 +42,8 @@ class Fault:
         if self.table == "top" or self.item == 0:
             return "the file"
         name = f"the {nth(self.item)} {self.outer_name()}"
-        called = held(self.outer, "name") if self.outer is not None and self.outer.kind == "table" else None
-        name += f" (`{short(called, 40)}`)" if isinstance(called, str) else ""
+        own, label = (held(self.outer, it) if self.outer is not None and self.outer.kind == "table" else None for it in ("name", "label"))
+        name += f" (`{called(label if self.kind != 24 else None, short(own, 40))}`)" if isinstance(own, str) else ""
         if self.inner:
             return f"the {nth(self.inner)} {self.table} of {name}"
         return f"the {self.table}s of {name}" if self.table in INNER else name
@@ -101,6 +102,9 @@ def absent(fault):
     what = fields.of(fault.table, fault.key, fault.version)
     where = "the file" if fault.table == "top" else fault.name()
     hint = f", {fields.wanted(what)}" + (f" from {fields.allowed(what)}" if what and "minimum" in what else "")
+    other = {"start": "minutes", "minutes": "start"}.get(fault.key)
+    if other:
+        return fault.value(other).key_at, f"{where} has `{other}`, and lacks the required key `{fault.key}`{hint}"
     return at, f"{where} lacks the required key `{fault.key}`{hint}"
 
 
@@ -212,18 +216,38 @@ def wrong_length(fault):
 
 
 def too_many_slots(fault):
-    plant = Plant(fault.document.root)
+    plant, named = named_plant(fault)
     slots = sorted(((len(it), run) for it, run in zip(plant.slots(), plant.runs)), key=lambda it: -it[0])
-    most = ", ".join(f"`{task}` on `{unit}` {number}" for number, (task, unit, _, _) in slots[:3])
+    most = ", ".join(f"{named('task', task)} on {named('unit', unit)} {number}" for number, (task, unit, _, _) in slots[:3])
     return None, f"the plant has {grouped(sum(it[0] for it in slots))} slots (a run and a period in which it can start), and {grouped(4096 if fault.version == 3 else 512)} are allowed", (
         f"Most of them: {most}"), do("plant", 18)
 
 
 def too_many_pairs(fault):
-    pairs = Plant(fault.document.root).pairs()
+    plant, named = named_plant(fault)
+    pairs = plant.pairs()
     most = sorted(pairs, key=lambda it: -pairs[it])[:3]
-    named = ", ".join(f"on `{unit}` from `{a}` to `{b}` {grouped(pairs[unit, a, b])}" for unit, a, b in most)
-    return None, f"gaps keep {grouped(sum(pairs.values()))} pairs of slots apart, and {grouped(32_768 if fault.version == 3 else 8192)} are allowed", f"Most of them: {named}", do("plant", 19)
+    most = ", ".join(f"on {named('unit', unit)} from {named('task', a)} to {named('task', b)} {grouped(pairs[unit, a, b])}" for unit, a, b in most)
+    return None, f"gaps keep {grouped(sum(pairs.values()))} pairs of slots apart, and {grouped(32_768 if fault.version == 3 else 8192)} are allowed", f"Most of them: {most}", do("plant", 19)
+
+
+def named_plant(fault):
+    """The plant of the file, and how its things are called."""
+    plant = Plant(fault.document.root)
+    return plant, lambda kind, name: f"`{plant.called(kind, name)}`"
+
+
+def no_label(fault):
+    value = fault.value()
+    size = len(value.held.encode("utf-8", "replace"))
+    odd = next((it for it in value.held if category(it) == "Cc" or it in "\ufffe\uffff"), None)
+    why = f"it has {count(size, 'byte')}" if not 1 <= size <= 64 else f"it has the character U+{ord(odd):04X}" if odd else ""
+    return value.at, f"{shown(fault, value)} is no label of {fault.name()}" + (f": {why}" if why else ""), means("plant", 24)
+
+
+def no_colour(fault):
+    value = fault.value()
+    return value.at, f"{shown(fault, value)}, the colour of {fault.name()}, is not `#` and six hexadecimal digits, such as `#1e90ff`"
 
 
 def both_given(fault):
@@ -242,4 +266,4 @@ def no_last(fault):
 TELLERS = {1: too_large, 2: no_document, 3: unknown_key, 4: unknown_key, 5: absent, 6: other_type, 7: out_of_range, 8: no_name,
            9: named_twice, 10: not_declared, 11: no_fraction, 12: no_sum, 13: not_whole, 14: too_many, 15: ends_crossed, 16: run_twice,
            17: wrong_length, 18: too_many_slots, 19: too_many_pairs, 21: both_given, 22: empty_outage,
-           23: no_last}
+           23: no_last, 24: no_label, 25: no_colour}

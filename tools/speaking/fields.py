@@ -56,6 +56,8 @@ def wanted(what):
     """The type that a key holds, in words."""
     if what is None:
         return "something else"
+    if "examples" in what:
+        return f"a date with a time of day, in whole seconds and of no zone, such as {what['examples'][0]}"
     if what.get("type") == "array":
         return "an array of tables" if "$ref" in what["items"] else "a list of whole numbers"
     return "a whole number" if what.get("type") == "integer" or "enum" in what else "a text in quotes"

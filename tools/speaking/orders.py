@@ -8,16 +8,16 @@ KINDS = {1: "it is missing, one too many, or no line of this form", 2: "it is no
          3: "its number is not above that of the line before"}
 
 
-def said(lines, plant, budget):
-    """`# conflict N` with its lines, as sentences."""
+def said(lines, plant, file, budget):
+    """`# conflict N` with its lines, as sentences; the plant stands in the file."""
     if not lines:
-        return sentences(means("answer", "none left"), do("answer", "none left"), without_outages(plant, budget))
-    named = [f"{grouped(int(it[4]))} of {it[2]} at time {it[3]} (delivery {it[1]})" for it in lines]
+        return sentences(means("answer", "none left"), do("answer", "none left"), without_outages(file, budget))
+    named = [f"{grouped(int(it[4]))} of {plant.called('state', it[2])} at time {it[3]} (delivery {it[1]})" for it in lines]
     opened = [it[1] for it in lines if it[5:] == ["open"]]
     first = f"{listed(named)} can't be met together" if len(lines) > 1 else f"{named[0]} can't be met by itself"
     others = "Without any one of them the others can" if not opened and len(lines) > 1 else ""
     unknown = f"Whether the others can without delivery {listed(opened)} is open: more boxes may tell" if opened else ""
-    return sentences(first, others, unknown, do("answer", "conflict"), without_outages(plant, budget))
+    return sentences(first, others, unknown, do("answer", "conflict"), without_outages(file, budget))
 
 
 def without_outages(plant, budget):

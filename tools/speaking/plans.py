@@ -31,8 +31,10 @@ def name_fault(plant, line):
     """Which name of a line the plant does not have."""
     _, unit, task, _ = line.split(" ")
     if unit not in plant.units:
-        return f"the plant has no unit `{short(unit, 40)}`{meant(unit, plant.units)}", f"Its units are {listed(plant.units)}"
-    return f"the plant has no task `{short(task, 40)}`{meant(task, plant.tasks)}", f"Its tasks are {listed(plant.tasks)}"
+        units = listed([plant.called("unit", it) for it in plant.units])
+        return f"the plant has no unit `{short(unit, 40)}`{meant(unit, plant.units)}", f"Its units are {units}"
+    tasks = listed([plant.called("task", it) for it in plant.tasks])
+    return f"the plant has no task `{short(task, 40)}`{meant(task, plant.tasks)}", f"Its tasks are {tasks}"
 
 
 def refused(plant, data, file, kind, number):
@@ -51,27 +53,28 @@ def refused(plant, data, file, kind, number):
 class Batch:
     """A start of a plan, and the line where it stands."""
 
-    def __init__(self, line, number, place):
+    def __init__(self, plant, line, number, place):
         period, self.unit, self.task, quanta = line.split(" ")
         self.period, self.quanta, self.line, self.place = int(period), int(quanta), number, place
+        self.on, self.what = plant.called("unit", self.unit), plant.called("task", self.task)
 
     def start(self):
         return self.period, self.unit, self.task, self.quanta
 
     def named(self):
-        return f"`{self.task}` on `{self.unit}` in period {self.period} ({count_quanta(self.quanta)}, line {self.line})"
+        return f"`{self.what}` on `{self.on}` in period {self.period} ({count_quanta(self.quanta)}, line {self.line})"
 
 
 def count_quanta(number):
     return f"{number} {'quantum' if number == 1 else 'quanta'}"
 
 
-def batches(data, before=None):
+def batches(plant, data, before=None):
     """The starts of a plan file; those before a period alone where one is given."""
     found = []
     for number, line in enumerate(text_of(data), 1):
         if line and not line.startswith("#"):
-            batch = Batch(line, number, len(found) + 1)
+            batch = Batch(plant, line, number, len(found) + 1)
             if before is None or batch.period < before:
                 batch.place = len(found) + 1
                 found.append(batch)
@@ -83,7 +86,7 @@ class Broken:
 
     def __init__(self, root, data, file, words, before=None):
         self.plant, self.file, self.words = Plant(root), file, words
-        self.batches = batches(data, before)
+        self.batches = batches(self.plant, data, before)
         self.plan = [it.start() for it in self.batches]
 
     def said(self):
@@ -116,20 +119,20 @@ class Broken:
         """Why a batch does not fit: its run, its size, the horizon, an outage."""
         run = next((it for it in self.plant.runs if it[:2] == (batch.task, batch.unit)), None)
         if run is None:
-            units = [unit for task, unit, _, _ in self.plant.runs if task == batch.task]
-            return f"no run has `{batch.task}` on `{batch.unit}`" + (f"; it runs on {listed(units)}" if units else "; it runs on no unit")
+            units = [self.plant.called("unit", unit) for task, unit, _, _ in self.plant.runs if task == batch.task]
+            return f"no run has `{batch.what}` on `{batch.on}`" + (f"; it runs on {listed(units)}" if units else "; it runs on no unit")
         if not run[2] <= batch.quanta <= run[3]:
             return f"its size is {count_quanta(batch.quanta)}, and this run takes {run[2]} to {run[3]}"
         if self.ends(batch) > self.plant.periods:
             return f"it ends at time {self.ends(batch)}, after the horizon, {self.plant.periods}"
         low, high = self.plant.outage(batch.unit, batch.period, self.ends(batch)) or (0, 0)
-        return f"`{batch.unit}` has an outage from {low} to {high}, and the batch runs from {batch.period} to {self.ends(batch)}"
+        return f"`{batch.on}` has an outage from {low} to {high}, and the batch runs from {batch.period} to {self.ends(batch)}"
 
     def busy(self):
         first, second = self.batch(self.words[1]), self.batch(self.words[2])
         if second.period < first.period:
             first, second = second, first
-        return f"two batches meet on `{first.unit}`: {first.named()} runs to time {self.ends(first)}, and {second.named()} begins before"
+        return f"two batches meet on `{first.on}`: {first.named()} runs to time {self.ends(first)}, and {second.named()} begins before"
 
     def gap(self):
         if self.words[1] == "0":
@@ -137,7 +140,7 @@ class Broken:
         first, second = self.batch(self.words[1]), self.batch(self.words[2])
         gap = self.plant.gaps.get((first.unit, first.task, second.task), 0)
         short_by = self.ends(first) + gap - second.period
-        return (f"`{first.unit}` is not clean: after {first.named()}, which ends at time {self.ends(first)}, it is cleaned for "
+        return (f"`{first.on}` is not clean: after {first.named()}, which ends at time {self.ends(first)}, it is cleaned for "
                 f"{count(gap, 'period')}, so {second.named()} begins {count(short_by, 'period')} too early")
 
     def early(self, batch):
@@ -145,7 +148,7 @@ class Broken:
         task, until = self.plant.lasts.get(batch.unit, (None, 0))
         gap = self.plant.gaps.get((batch.unit, task, batch.task), 0)
         clean = f" and is cleaned for {count(gap, 'period')}" if gap else ""
-        return (f"`{batch.unit}` is not ready: a batch of `{task}` held it before the plan, which ends at time {until}{clean}, so "
+        return (f"`{batch.on}` is not ready: a batch of `{self.plant.called('task', task)}` held it before the plan, which ends at time {until}{clean}, so "
                 f"{batch.named()} begins {count(until + gap - batch.period, 'period')} too early")
 
     def movers(self, state, time, gives):
@@ -165,14 +168,14 @@ class Broken:
         movers = self.movers(state, time, False)
         due = -sum(amount for name, at, amount in self.plant.moves if name == state and at == time and amount < 0)
         why = (f"taken then by {'; '.join(movers[:3])}" if movers else "") + (" and " if movers and due else "") + (f"{grouped(due)} are due then" if due else "")
-        return f"the stock of `{state}` at time {time} is {grouped(stock)}, so {grouped(-stock)} mass units are missing" + (f" ({why})" if why else "")
+        return f"the stock of `{self.plant.called('state', state)}` at time {time} is {grouped(stock)}, so {grouped(-stock)} mass units are missing" + (f" ({why})" if why else "")
 
     def high(self):
         state, time = self.words[1], int(self.words[2])
         stock, limit = self.plant.stock(self.plan, state, time), self.plant.limit(self.plant.states[state], time)
         movers = self.movers(state, time, True)
         why = f" (given then by {'; '.join(movers[:3])})" if movers else ""
-        return f"the stock of `{state}` at time {time} is {grouped(stock)}, {grouped(stock - limit)} above its limit of {grouped(limit)}{why}"
+        return f"the stock of `{self.plant.called('state', state)}` at time {time} is {grouped(stock)}, {grouped(stock - limit)} above its limit of {grouped(limit)}{why}"
 
     def load(self):
         utility, period = self.words[1], int(self.words[2])
@@ -180,4 +183,4 @@ class Broken:
         load, limit = sum(it[0] for it in drawn), self.plant.limit(self.plant.utilities[utility], period)
         most = sorted((it for it in drawn if it[0]), key=lambda it: -it[0])[:3]
         named = "; ".join(f"{grouped(number)} by {it.named()}" for number, it in most)
-        return f"the load of `{utility}` in period {period} is {grouped(load)}, {grouped(load - limit)} above its limit of {grouped(limit)}: {named}"
+        return f"the load of `{self.plant.called('utility', utility)}` in period {period} is {grouped(load)}, {grouped(load - limit)} above its limit of {grouped(limit)}: {named}"

@@ -1,6 +1,8 @@
 """A plant file without faults, as far as sentences need it: its slots, and what a plan does to its stocks and loads."""
 from fractions import Fraction
 
+from speaking.texts import called
+
 
 def held(table, key, default=None):
     """What a table of the document holds at a key, without its place."""
@@ -52,6 +54,7 @@ class Plant:
 
     def __init__(self, root):
         self.periods = whole(root, "periods", 0)
+        self.labels = {kind: {held(it, "name"): held(it, "label") for it in rows(root, kind)} for kind in ("state", "utility", "unit", "task")}
         self.states = {held(it, "name"): it for it in rows(root, "state")}
         self.utilities = {held(it, "name"): it for it in rows(root, "utility")}
         self.units = [held(it, "name") for it in rows(root, "unit")]
@@ -65,6 +68,10 @@ class Plant:
         self.outages = [(held(it, "unit"), whole(it, "from"), whole(it, "to")) for it in rows(root, "outage")]
         self.moves = [(held(it, "state"), whole(it, "time"), whole(it, "amount")) for it in rows(root, "receipt")]
         self.moves += [(held(it, "state"), whole(it, "time"), -whole(it, "amount")) for it in rows(root, "delivery")]
+
+    def called(self, kind, name):
+        """A state, a utility, a unit or a task as sentences call it."""
+        return called(self.labels[kind].get(name), name)
 
     def limit(self, table, at):
         """The limit of a state or a utility at a time or in a period, or nothing."""

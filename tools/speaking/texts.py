@@ -64,6 +64,12 @@ def short(text, most=80):
     return text if len(text) <= most else text[:most - 2] + ".."
 
 
+def called(label, name):
+    """A thing by its label, with its name behind it: the words of a file and of a command are names."""
+    label = "".join(it if it.isprintable() or it.isspace() else "?" for it in label) if isinstance(label, str) else ""
+    return f"{label} ({name})" if label else name
+
+
 def listed(names, most=12):
     """Names in a row."""
     names = [f"`{it}`" for it in names]

@@ -3,6 +3,7 @@
 It takes what the program's reader takes, line breaks in inline tables too. It is for sentences alone: nothing is decided by it.
 """
 import re
+from calendar import monthrange
 
 BLANKS = re.compile(r"[ \t]*")
 SPACE = re.compile(r"(?:[ \t\n]|\r\n|#[^\x00-\x08\x0a-\x1f\x7f]*)*")
@@ -231,6 +232,8 @@ class Reader:
             if self.wants(mark):
                 return Node("truth value", mark == "true", at, self.at)
         if self.take(DATE):
+            if not is_there(self.text[at:self.at]):
+                self.stop("there is no such day or time", at)
             return Node("date or time", self.text[at:self.at], at, self.at)
         if self.take(BASED):
             return Node("number", int(self.text[at:self.at].replace("_", ""), 0), at, self.at)
@@ -309,6 +312,15 @@ class Reader:
         if not self.wants("'''"):
             self.stop("a text in ''' ends with these", begin)
         return text
+
+
+def is_there(text):
+    """Whether there is such a day, and such a time of day; a minute may have a leap second."""
+    date, time = re.match(r"(\d{4}-\d\d-\d\d)?[Tt ]?(\d\d:\d\d(?::\d\d)?)?", text).groups()
+    year, month, day = map(int, (date or "2000-01-01").split("-"))
+    numbers = [int(it) for it in (time or "00:00").split(":")]
+    is_day = 1 <= month <= 12 and 1 <= day <= monthrange(2000 + year % 400, month)[1]
+    return is_day and all(it < most for it, most in zip(numbers, (24, 60, 61)))
 
 
 def escaped(found):

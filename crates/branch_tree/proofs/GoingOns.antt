@@ -17,7 +17,7 @@ use Rattle.branch_tree.specs.laws.Grounds.{IsAmong, IsGround, StandsIn, choices_
 
 -- a search that can go on stands in a box that fits and is not too deep, whatever certificate is at hand
 pub going-stands : (most : ℕ) (rows : Rows) (going : GoingOn) (view : View) (depth : ℕ) (held : Option Cert) → CanGoOn most rows going → Fits (program_of going.ground) view → is_deep going.ground.most depth view ≡ false
-    → StandsIn going.ground view depth (record going.reached { changed = None; held = held })
+    → StandsIn going.ground view (record going.reached { depth = depth; changed = None; held = held })
 going-stands most rows going view depth held can fits deep = record {
   indexed = can.indexed;
   fits = fits;

@@ -44,13 +44,13 @@ use Rattle.branch_tree.proofs.Forgotten.{IsLeftTo}
 use Rattle.branch_tree.proofs.Opened.{none_bare-open}
 
 -- after its cuts a search stands in the view that they leave
-pub stands_after : (ground : Ground) (v w : View) (depth : ℕ) (old new : Reached) → StandsIn ground v depth old → CutsLeave (program_of ground) v w
-    → length new.point.items ≡ length old.point.items → new.changed ≡ None → new.own ≡ old.own → StandsIn ground w depth new
-stands_after ground v w depth old new stands leave places changed own = record {
+pub stands_after : (ground : Ground) (v w : View) (old new : Reached) → StandsIn ground v old → CutsLeave (program_of ground) v w
+    → length new.point.items ≡ length old.point.items → new.changed ≡ None → new.own ≡ old.own → new.depth ≡ old.depth → StandsIn ground w new
+stands_after ground v w old new stands leave places changed own depth = record {
   indexed = stands.indexed;
   fits = leave.fits;
   places = places ∙ stands.places;
-  deep = omega (arith, stands.deep, leave.splits);
+  deep = omega (arith, stands.deep, leave.splits, depth);
   room = subst (λ o. IfSome o (λ slot. (slot < length (program_of ground).root) × HaveRoomBut (program_of ground).rows (slot ∷ []) (domains_of w))) (sym changed) tt;
   own = subst (λ o. IfSome o (λ found. IsGroup (choices_at ground) found × IsAmong (rows_of ground) w found.point)) (sym own) (kept old.own stands.own);
 }
@@ -60,25 +60,25 @@ stands_after ground v w depth old new stands leave places changed own = record {
     kept (Some f) is = (is.0, (is.1.0, is.1.1, leave.keeps is.1.0 is.1.2 is.1.1.lawful))
 
 -- and after its own point was offered there
-pub stands_on : (ground : Ground) (v w : View) (depth : ℕ) (old new : Reached) → StandsIn ground v depth old → CutsLeave (program_of ground) v w
-    → length new.point.items ≡ length old.point.items → new.changed ≡ None → new.own ≡ None → StandsIn ground w depth new
-stands_on ground v w depth old new stands leave places changed own = record {
+pub stands_on : (ground : Ground) (v w : View) (old new : Reached) → StandsIn ground v old → CutsLeave (program_of ground) v w
+    → length new.point.items ≡ length old.point.items → new.changed ≡ None → new.own ≡ None → new.depth ≡ old.depth → StandsIn ground w new
+stands_on ground v w old new stands leave places changed own depth = record {
   indexed = stands.indexed;
   fits = leave.fits;
   places = places ∙ stands.places;
-  deep = omega (arith, stands.deep, leave.splits);
+  deep = omega (arith, stands.deep, leave.splits, depth);
   room = subst (λ o. IfSome o (λ slot. (slot < length (program_of ground).root) × HaveRoomBut (program_of ground).rows (slot ∷ []) (domains_of w))) (sym changed) tt;
   own = subst (λ o. IfSome o (λ found. IsGroup (choices_at ground) found × IsAmong (rows_of ground) w found.point)) (sym own) tt;
 }
 
 -- and in what the floor of a split leaves
-pub stands_left : (ground : Ground) (v rest : View) (depth : ℕ) (old new : Reached) → StandsIn ground v depth old → IsLeftTo (program_of ground) v rest
-    → length new.point.items ≡ length old.point.items → new.changed ≡ None → new.own ≡ None → StandsIn ground rest depth new
-stands_left ground v rest depth old new stands leave places changed own = record {
+pub stands_left : (ground : Ground) (v rest : View) (old new : Reached) → StandsIn ground v old → IsLeftTo (program_of ground) v rest
+    → length new.point.items ≡ length old.point.items → new.changed ≡ None → new.own ≡ None → new.depth ≡ old.depth → StandsIn ground rest new
+stands_left ground v rest old new stands leave places changed own depth = record {
   indexed = stands.indexed;
   fits = leave.fits;
   places = places ∙ stands.places;
-  deep = omega (arith, stands.deep, leave.splits);
+  deep = omega (arith, stands.deep, leave.splits, depth);
   room = subst (λ o. IfSome o (λ slot. (slot < length (program_of ground).root) × HaveRoomBut (program_of ground).rows (slot ∷ []) (domains_of rest))) (sym changed) tt;
   own = subst (λ o. IfSome o (λ found. IsGroup (choices_at ground) found × IsAmong (rows_of ground) rest found.point)) (sym own) tt;
 }
@@ -164,9 +164,9 @@ alone None slot P Q follows p = follows p
 alone (Some n) slot P Q follows p = tt
 
 -- the left part of a split
-pub left_stands : (ground : Ground) (v x : View) (pick : RowPick) (cert : Cert) (depth : ℕ) (old new : Reached) → StandsIn ground v depth old → IfSome (slot_alone pick.floor pick.slot) (λ slot. HaveRoom (program_of ground).rows (domains_of v)) → IsSplitAt (program_of ground) ground.given v pick cert
-    → (steps_of (rows_of ground)).left v pick ≡ Some x → length new.point.items ≡ length old.point.items → new.changed ≡ slot_alone pick.floor pick.slot → new.own ≡ None → StandsIn ground x (depth + 1) new
-left_stands ground v x pick cert depth old new stands room cause moved places changed own =
+pub left_stands : (ground : Ground) (v x : View) (pick : RowPick) (cert : Cert) (old new : Reached) → StandsIn ground v old → IfSome (slot_alone pick.floor pick.slot) (λ slot. HaveRoom (program_of ground).rows (domains_of v)) → IsSplitAt (program_of ground) ground.given v pick cert
+    → (steps_of (rows_of ground)).left v pick ≡ Some x → length new.point.items ≡ length old.point.items → new.changed ≡ slot_alone pick.floor pick.slot → new.own ≡ None → new.depth ≡ old.depth + 1 → StandsIn ground x new
+left_stands ground v x pick cert old new stands room cause moved places changed own depth =
     let rows = rows_of ground in
     let ds = domains_of v in
     let rooms = λ (all : HaveRoom rows.program.rows ds). HaveRoomBut-kept_at rows.program.rows ds pick.slot (up_to pick.max) cause.parted.slot (rooms_of rows.program.rows ds pick.slot (up_to pick.max) cause.parted.left all) in
@@ -174,7 +174,7 @@ left_stands ground v x pick cert depth old new stands room cause moved places ch
       indexed = stands.indexed;
       fits = (rows_sound rows.program).left_fits v x pick stands.fits moved;
       places = places ∙ stands.places;
-      deep = omega (arith, stands.deep, splits-left rows.program v x pick cause.parted moved);
+      deep = omega (arith, stands.deep, splits-left rows.program v x pick cause.parted moved, depth);
       room = subst (λ o. IfSome o (λ slot. (slot < length rows.program.root) × HaveRoomBut rows.program.rows (slot ∷ []) (domains_of x))) (sym changed)
           (alone pick.floor pick.slot (HaveRoom rows.program.rows ds) (λ slot. (slot < length rows.program.root) × HaveRoomBut rows.program.rows (slot ∷ []) (domains_of x))
           (λ all. (subst (λ n. pick.slot < n) stands.fits.slots cause.parted.slot, subst (λ (xs : List Domain). HaveRoomBut rows.program.rows (pick.slot ∷ []) xs) (sym (left_domains rows.program v x pick moved)) (rooms all)))
@@ -182,9 +182,9 @@ left_stands ground v x pick cert depth old new stands room cause moved places ch
       own = subst (λ o. IfSome o (λ found. IsGroup (choices_of rows) found × IsAmong rows x found.point)) (sym own) tt;
     }
 
-pub right_stands : (ground : Ground) (v x : View) (pick : RowPick) (cert : Cert) (depth : ℕ) (old new : Reached) → StandsIn ground v depth old → IfSome (slot_alone pick.floor pick.slot) (λ slot. HaveRoom (program_of ground).rows (domains_of v)) → IsSplitAt (program_of ground) ground.given v pick cert
-    → (steps_of (rows_of ground)).right v pick ≡ Some x → length new.point.items ≡ length old.point.items → new.changed ≡ slot_alone pick.floor pick.slot → new.own ≡ None → StandsIn ground x (depth + 1) new
-right_stands ground v x pick cert depth old new stands room cause moved places changed own =
+pub right_stands : (ground : Ground) (v x : View) (pick : RowPick) (cert : Cert) (old new : Reached) → StandsIn ground v old → IfSome (slot_alone pick.floor pick.slot) (λ slot. HaveRoom (program_of ground).rows (domains_of v)) → IsSplitAt (program_of ground) ground.given v pick cert
+    → (steps_of (rows_of ground)).right v pick ≡ Some x → length new.point.items ≡ length old.point.items → new.changed ≡ slot_alone pick.floor pick.slot → new.own ≡ None → new.depth ≡ old.depth + 1 → StandsIn ground x new
+right_stands ground v x pick cert old new stands room cause moved places changed own depth =
     let rows = rows_of ground in
     let ds = domains_of v in
     let rooms = λ (all : HaveRoom rows.program.rows ds). HaveRoomBut-kept_at rows.program.rows ds pick.slot (over pick.max) cause.parted.slot (rooms_of rows.program.rows ds pick.slot (over pick.max) cause.parted.right all) in
@@ -192,7 +192,7 @@ right_stands ground v x pick cert depth old new stands room cause moved places c
       indexed = stands.indexed;
       fits = (rows_sound rows.program).right_fits v x pick stands.fits moved;
       places = places ∙ stands.places;
-      deep = omega (arith, stands.deep, splits-right rows.program v x pick cause.parted moved);
+      deep = omega (arith, stands.deep, splits-right rows.program v x pick cause.parted moved, depth);
       room = subst (λ o. IfSome o (λ slot. (slot < length rows.program.root) × HaveRoomBut rows.program.rows (slot ∷ []) (domains_of x))) (sym changed)
           (alone pick.floor pick.slot (HaveRoom rows.program.rows ds) (λ slot. (slot < length rows.program.root) × HaveRoomBut rows.program.rows (slot ∷ []) (domains_of x))
           (λ all. (subst (λ n. pick.slot < n) stands.fits.slots cause.parted.slot, subst (λ (xs : List Domain). HaveRoomBut rows.program.rows (pick.slot ∷ []) xs) (sym (right_domains rows.program v x pick moved)) (rooms all)))

@@ -96,8 +96,8 @@ module _ (rows : Rows) where
   best_worth point (Some f) (Some b) is offered lawful = (let low = is lawful in omega (arith, ints, low, offered))
 
 -- the start of a search stands in the root
-pub root-stands : (ground : Ground) (point : List ℕ) (marks : List (List Domain)) (start : Reached) → IsGround ground → HaveImages (rows_of ground) → marks ≡ (program_of ground).root ∷ [] → IsStart (rows_of ground) point start → StandsIn ground (seen marks) 0 start
-root-stands ground point marks start indexed images is begun = subst (λ (ms : List (List Domain)). StandsIn ground (seen ms) 0 start) (sym is) at_root
+pub root-stands : (ground : Ground) (point : List ℕ) (marks : List (List Domain)) (start : Reached) → IsGround ground → HaveImages (rows_of ground) → marks ≡ (program_of ground).root ∷ [] → IsStart (rows_of ground) point start → StandsIn ground (seen marks) start
+root-stands ground point marks start indexed images is begun = subst (λ (ms : List (List Domain)). StandsIn ground (seen ms) start) (sym is) at_root
   where
     own_at : (own : Option Found) → IfSome own (IsGroup (choices_at ground))
         → IfSome own (λ found. IsGroup (choices_at ground) found × IsAmong (rows_of ground) (view_of (program_of ground).root) found.point)
@@ -106,12 +106,12 @@ root-stands ground point marks start indexed images is begun = subst (λ (ms : L
         let image = images f.point offered.lawful in
         (offered, (image.0, image.1, subst (λ (ds : List Domain). LiesIn ds image.0) (sym (domains_of-view_of (program_of ground).root)) image.1.lawful.lies))
 
-    at_root : StandsIn ground (view_of (program_of ground).root) 0 start
+    at_root : StandsIn ground (view_of (program_of ground).root) start
     at_root = record {
       indexed = indexed;
       fits = root_fits (rows_of ground);
       places = begun.places;
-      deep = omega (arith, splits-root ground.most (program_of ground) indexed.searchable);
+      deep = omega (arith, splits-root ground.most (program_of ground) indexed.searchable, begun.depth);
       room = subst (λ o. IfSome o (λ slot. (slot < length (program_of ground).root) × HaveRoomBut (program_of ground).rows (slot ∷ []) (domains_of (view_of (program_of ground).root)))) (sym begun.changed) tt;
       own = own_at start.own begun.own.group;
     }

@@ -1,5 +1,5 @@
 //! The search of a box: its cuts, its end, and both parts of its split.
-ghost use Rattle.std.specs.Prelude.{◌≡◌, ◌≢◌, ℕ, ◌+◌, ◌<◌, ◌≤◌, List as Listed, Option, Some, None, length, map, false, ⊤, IfOk, IfSome, OnOk, OnErr, IsErrOf, IsTrue, true, ◌≤ℤ◌};
+ghost use Rattle.std.specs.Prelude.{◌≡◌, ◌≢◌, ℕ, ◌+◌, ◌<◌, ◌≤◌, List as Listed, Option, Some, None, length, false, ⊤, IfOk, IfSome, OnOk, OnErr, IsErrOf, IsTrue, true, ◌≤ℤ◌};
 ghost use Rattle.std.specs.List.{All};
 ghost use Rattle.std.specs.Option.{IsSomeAnd, option_map};
 ghost use Rattle.row_kit.specs.Area.{present};
@@ -8,11 +8,11 @@ ghost use Rattle.range_prop.specs.Cuts.{AreDone, HaveRoom};
 ghost use Rattle.proof_tree.specs.Cap.{Bounds};
 ghost use Rattle.proof_tree.specs.Taker.{Rose};
 ghost use Rattle.row_relax.specs.Choices.{steps_of};
-ghost use Rattle.row_relax.specs.View.{Fits, domains_of, view_of};
+ghost use Rattle.row_relax.specs.View.{Fits, domains_of};
 ghost use Rattle.branch_tree.specs.Justified.{IsGroup, HasCause};
 ghost use Rattle.branch_tree.specs.Searched.{IsBest, IsFitItem};
 ghost use Rattle.branch_tree.specs.laws.Ends.{ItemEnds};
-ghost use Rattle.branch_tree.specs.laws.Grounds.{StandsIn, IsOwnBest, IsSplitPart, IsSplitAt, program_of, seen, slot_alone, rows_of};
+ghost use Rattle.branch_tree.specs.laws.Grounds.{StandsIn, GoesOn, LeavesOff, IsOwnBest, IsSplitPart, IsSplitAt, program_of, seen, slot_alone, rows_of};
 ghost use Rattle.branch_tree.specs.laws.Handed.{LookHanded, TailHanded, SplitHanded, PartsHanded, BoxHanded};
 ghost use Rattle.branch_tree.specs.laws.Stops.{LookStopped, TailStopped, PartsStopped, BoxStopped};
 
@@ -28,6 +28,20 @@ use row_kit::{Area, Found};
 use row_relax::{RowPick, Rows};
 use std::alloc::AllocError;
 
+// Who advises a search: a hinter on points, and a guide on certificates and splits.
+#[derive(Drop)]
+pub(crate) struct SearchAdvisers<'a, H, G> {
+    pub hinter: &'a mut H,
+    pub guide: &'a mut G,
+}
+
+// A split of a box: where, and the certificate that stands for its parts where they are left open.
+#[derive(Clone, Copy)]
+struct RowSplit<'a> {
+    pub pick: &'a RowPick,
+    pub cert: &'a Cert,
+}
+
 // The worth of a found point.
 pub(crate) fn worth_of(found: &Option<Found>) -> Option<i128>
     ensures { result ≡ option_map (λ f. f.value) found.now }
@@ -42,7 +56,6 @@ pub(crate) fn worth_of(found: &Option<Found>) -> Option<i128>
 fn advised<G: Guide>(
     ground: &Ground,
     area: &Area,
-    depth: u32,
     reached: &mut Reached,
     guide: &mut G,
 ) -> Result<Advice, AllocError>
@@ -64,7 +77,7 @@ fn advised<G: Guide>(
         ground.alloc,
         &ground.rows.program,
         area,
-        depth,
+        reached.depth,
         best,
         &mut reached.point,
     )
@@ -74,14 +87,12 @@ fn advised<G: Guide>(
 fn look<H: Hinter, G: Guide, O, T: NodeTaker<Rows, O>>(
     ground: &Ground,
     area: &mut Area,
-    depth: u32,
     reached: &mut Reached,
-    hinter: &mut H,
-    guide: &mut G,
+    advisers: &mut SearchAdvisers<H, G>,
     taker: &mut T,
     out: &mut O,
 ) -> Result<Item<Rows>, TakeStop>
-    requires stands { StandsIn ground.now (seen area.old) depth reached.old }
+    requires stands { StandsIn ground.now (seen area.old) reached.old }
     requires done { AreDone (program_of ground.now).rows (present area.old) }
     requires ready { T.ready taker.old out.old }
     ensures same { area.new ≡ area.old }
@@ -91,6 +102,7 @@ fn look<H: Hinter, G: Guide, O, T: NodeTaker<Rows, O>>(
         (seen area.old) item reached.old taker.old out.old reached.new taker.new out.new) }
     ensures own { OnOk result (IsOwnBest reached.old.own reached.new.best) }
     ensures spent { reached.new.spent ≡ reached.old.spent }
+    ensures depth { reached.new.depth ≡ reached.old.depth }
     ensures changed { reached.new.changed ≡ reached.old.changed }
     ensures none { OnOk result (reached.new.own ≡ None) }
     ensures places { length reached.new.point.items ≡ length reached.old.point.items }
@@ -103,8 +115,8 @@ fn look<H: Hinter, G: Guide, O, T: NodeTaker<Rows, O>>(
     if area.has_empty() {
         return Ok(Item::Empty);
     }
-    let advice = advised(ground, area, depth, reached, guide)?;
-    let found = found_at(ground, area, own, hinter, &mut reached.point)?;
+    let advice = advised(ground, area, reached, advisers.guide)?;
+    let found = found_at(ground, area, own, advisers.hinter, &mut reached.point)?;
     put_found(found, &mut reached.best, taker, out)?;
     let best = worth_of(&reached.best);
     Ok(judge(ground, area, advice, reached.held.take(), best)?)
@@ -115,20 +127,16 @@ fn look<H: Hinter, G: Guide, O, T: NodeTaker<Rows, O>>(
 pub(crate) fn search_box<H: Hinter, G: Guide, O, T: NodeTaker<Rows, O>>(
     ground: &Ground,
     area: &mut Area,
-    depth: u32,
     reached: &mut Reached,
-    hinter: &mut H,
-    guide: &mut G,
+    advisers: &mut SearchAdvisers<H, G>,
     taker: &mut T,
     out: &mut O,
 ) -> Result<Capped, TakeStop>
-    requires stands { StandsIn ground.now (seen area.old) depth reached.old }
+    requires stands { StandsIn ground.now (seen area.old) reached.old }
     requires room { reached.old.spent < ground.now.budget }
     requires ready { T.ready taker.old out.old }
-    ensures as_before { OnOk result (map view_of area.new ≡ map view_of area.old) }
-    ensures ready { OnOk result (T.ready taker.new out.new) }
-    ensures within { OnOk result (reached.new.spent ≤ ground.now.budget) }
-    ensures none { OnOk result (reached.new.own ≡ None) }
+    ensures left { OnOk result (LeavesOff (T.ready taker.new out.new) ground.now area.old area.new
+        reached.new) }
     ensures own { OnOk result (IsOwnBest reached.old.own reached.new.best) }
     ensures places { length reached.new.point.items ≡ length reached.old.point.items }
     ensures handed { IfOk result
@@ -143,10 +151,8 @@ pub(crate) fn search_box<H: Hinter, G: Guide, O, T: NodeTaker<Rows, O>>(
     let start = ground.rows.mark(area);
     open_box(ground, area, reached.changed.take(), taker, out)?;
     reached.spent += 1;
-    let item = look(ground, area, depth, reached, hinter, guide, taker, out)?;
-    let cap = search_end(
-        ground, area, depth, item, reached, hinter, guide, taker, out,
-    )?;
+    let item = look(ground, area, reached, advisers, taker, out)?;
+    let cap = search_end(ground, area, item, reached, advisers, taker, out)?;
     ground.rows.back(area, start);
     Ok(cap)
 }
@@ -156,26 +162,19 @@ pub(crate) fn search_box<H: Hinter, G: Guide, O, T: NodeTaker<Rows, O>>(
 fn search_end<H: Hinter, G: Guide, O, T: NodeTaker<Rows, O>>(
     ground: &Ground,
     area: &mut Area,
-    depth: u32,
     item: Item<Rows>,
     reached: &mut Reached,
-    hinter: &mut H,
-    guide: &mut G,
+    advisers: &mut SearchAdvisers<H, G>,
     taker: &mut T,
     out: &mut O,
 ) -> Result<Capped, TakeStop>
-    requires stands { StandsIn ground.now (seen area.old) depth reached.old }
-    requires within { reached.old.spent ≤ ground.now.budget }
-    requires none { reached.old.own ≡ None }
+    requires can { GoesOn (T.ready taker.old out.old) ground.now (seen area.old) reached.old }
     requires room { HaveRoom (program_of ground.now).rows (domains_of (seen area.old)) }
     requires ends { (found : Listed Found) → IsBest reached.old.best found
         → ItemEnds (rows_of ground.now) ground.now.given (seen area.old) found item }
     requires fit { IsFitItem (rows_of ground.now) ground.now.floors item }
-    requires ready { T.ready taker.old out.old }
-    ensures as_before { OnOk result (map view_of area.new ≡ map view_of area.old) }
-    ensures ready { OnOk result (T.ready taker.new out.new) }
-    ensures within { OnOk result (reached.new.spent ≤ ground.now.budget) }
-    ensures none { OnOk result (reached.new.own ≡ None) }
+    ensures left { OnOk result (LeavesOff (T.ready taker.new out.new) ground.now area.old area.new
+        reached.new) }
     ensures places { length reached.new.point.items ≡ length reached.old.point.items }
     ensures handed { IfOk result
         (λ cap. TailHanded T.took (rows_of ground.now) ground.now.floors ground.now.given
@@ -191,9 +190,10 @@ fn search_end<H: Hinter, G: Guide, O, T: NodeTaker<Rows, O>>(
         Item::Empty => Ok(Capped::NoPoint),
         Item::Dual(cert) => Ok(ground.rows.cap(area, cert)),
         Item::Point => Ok(ground.rows.settle(area)),
-        Item::Split(pick, cert) => search_split(
-            ground, area, depth, pick, cert, reached, hinter, guide, taker, out,
-        ),
+        Item::Split(pick, cert) => {
+            let split = RowSplit { pick, cert };
+            search_split(ground, area, split, reached, advisers, taker, out)
+        }
         _ => unreachable!(),
     }
 }
@@ -203,44 +203,34 @@ fn search_end<H: Hinter, G: Guide, O, T: NodeTaker<Rows, O>>(
 fn search_split<H: Hinter, G: Guide, O, T: NodeTaker<Rows, O>>(
     ground: &Ground,
     area: &mut Area,
-    depth: u32,
-    pick: &RowPick,
-    cert: &Cert,
+    split: RowSplit,
     reached: &mut Reached,
-    hinter: &mut H,
-    guide: &mut G,
+    advisers: &mut SearchAdvisers<H, G>,
     taker: &mut T,
     out: &mut O,
 ) -> Result<Capped, TakeStop>
-    requires stands { StandsIn ground.now (seen area.old) depth reached.old }
-    requires within { reached.old.spent ≤ ground.now.budget }
-    requires none { reached.old.own ≡ None }
+    requires can { GoesOn (T.ready taker.old out.old) ground.now (seen area.old) reached.old }
     requires room { HaveRoom (program_of ground.now).rows (domains_of (seen area.old)) }
     requires split { IsSplitAt (program_of ground.now) ground.now.given
-        ((steps_of (rows_of ground.now)).trim (seen area.old) pick.now cert.now)
-        pick.now cert.now }
-    requires ready { T.ready taker.old out.old }
-    ensures as_before { OnOk result (map view_of area.new ≡ map view_of area.old) }
-    ensures ready { OnOk result (T.ready taker.new out.new) }
-    ensures within { OnOk result (reached.new.spent ≤ ground.now.budget) }
-    ensures none { OnOk result (reached.new.own ≡ None) }
+        ((steps_of (rows_of ground.now)).trim (seen area.old) split.pick.now split.cert.now)
+        split.pick.now split.cert.now }
+    ensures left { OnOk result (LeavesOff (T.ready taker.new out.new) ground.now area.old area.new
+        reached.new) }
     ensures places { length reached.new.point.items ≡ length reached.old.point.items }
     ensures handed { IfOk result
         (λ cap. SplitHanded T.took (rows_of ground.now) ground.now.floors ground.now.given
         ground.now.budget ground.now.may_leave
-        (seen area.old) pick.now cert.now cap reached.old taker.old out.old reached.new taker.new
-        out.new) }
+        (seen area.old) split.entry.pick.now split.entry.cert.now cap reached.old
+        taker.old out.old reached.new taker.new out.new) }
     ensures err { OnErr result (PartsStopped T.took T.broke (rows_of ground.now)
         ground.now.floors (seen area.old) taker.old out.old taker.new out.new) }
     ensures later { T.faults out.old ≤ T.faults out.new }
     ensures failed { IsErrOf result TakeStop.Failed → Rose (T.faults out.old) (T.faults out.new) }
 {
     let start = ground.rows.mark(area);
-    let floor = ground.rows.trim(area, pick, cert);
+    let floor = ground.rows.trim(area, split.pick, split.cert);
     reached.changed = None;
-    let cap = search_parts(
-        ground, area, depth, pick, cert, reached, hinter, guide, taker, out,
-    )?;
+    let cap = search_parts(ground, area, split, reached, advisers, taker, out)?;
     ground.rows.back(area, start);
     Ok(greater_cap(floor_cap(floor), cap))
 }
@@ -260,51 +250,42 @@ fn slot_alone(pick: &RowPick) -> Option<u32>
 fn search_parts<H: Hinter, G: Guide, O, T: NodeTaker<Rows, O>>(
     ground: &Ground,
     area: &mut Area,
-    depth: u32,
-    pick: &RowPick,
-    cert: &Cert,
+    split: RowSplit,
     reached: &mut Reached,
-    hinter: &mut H,
-    guide: &mut G,
+    advisers: &mut SearchAdvisers<H, G>,
     taker: &mut T,
     out: &mut O,
 ) -> Result<Capped, TakeStop>
-    requires stands { StandsIn ground.now (seen area.old) depth reached.old }
-    requires within { reached.old.spent ≤ ground.now.budget }
-    requires none { reached.old.own ≡ None }
-    requires room { IfSome (slot_alone pick.now.floor pick.now.slot)
+    requires can { GoesOn (T.ready taker.old out.old) ground.now (seen area.old) reached.old }
+    requires room { IfSome (slot_alone split.pick.now.floor split.pick.now.slot)
         (λ slot. HaveRoom (program_of ground.now).rows (domains_of (seen area.old))) }
     requires split { IsSplitAt (program_of ground.now) ground.now.given (seen area.old)
-        pick.now cert.now }
-    requires ready { T.ready taker.old out.old }
-    ensures as_before { OnOk result (map view_of area.new ≡ map view_of area.old) }
-    ensures ready { OnOk result (T.ready taker.new out.new) }
-    ensures within { OnOk result (reached.new.spent ≤ ground.now.budget) }
-    ensures none { OnOk result (reached.new.own ≡ None) }
+        split.pick.now split.cert.now }
+    ensures left { OnOk result (LeavesOff (T.ready taker.new out.new) ground.now area.old area.new
+        reached.new) }
     ensures places { length reached.new.point.items ≡ length reached.old.point.items }
     ensures handed { IfOk result
         (λ cap. PartsHanded T.took (rows_of ground.now) ground.now.floors ground.now.given
         ground.now.budget ground.now.may_leave
-        (seen area.old) pick.now cert.now cap reached.old taker.old out.old reached.new taker.new
-        out.new) }
+        (seen area.old) split.entry.pick.now split.entry.cert.now cap reached.old
+        taker.old out.old reached.new taker.new out.new) }
     ensures err { OnErr result (PartsStopped T.took T.broke (rows_of ground.now)
         ground.now.floors (seen area.old) taker.old out.old taker.new out.new) }
     ensures later { T.faults out.old ≤ T.faults out.new }
     ensures failed { IsErrOf result TakeStop.Failed → Rose (T.faults out.old) (T.faults out.new) }
 {
     let mark = ground.rows.mark(area);
-    let below = depth + 1;
+    let RowSplit { pick, cert } = split;
+    let below = reached.depth + 1;
     let _ = ground.rows.left(area, pick);
+    reached.depth = below;
     reached.changed = slot_alone(pick);
-    let first = search_part(
-        ground, area, below, cert, reached, hinter, guide, taker, out,
-    )?;
+    let first = search_part(ground, area, cert, reached, advisers, taker, out)?;
     ground.rows.back(area, mark);
     let _ = ground.rows.right(area, pick);
+    reached.depth = below;
     reached.changed = slot_alone(pick);
-    let second = search_part(
-        ground, area, below, cert, reached, hinter, guide, taker, out,
-    )?;
+    let second = search_part(ground, area, cert, reached, advisers, taker, out)?;
     ground.rows.back(area, mark);
     Ok(greater_cap(first, second))
 }
@@ -314,23 +295,16 @@ fn search_parts<H: Hinter, G: Guide, O, T: NodeTaker<Rows, O>>(
 fn search_part<H: Hinter, G: Guide, O, T: NodeTaker<Rows, O>>(
     ground: &Ground,
     area: &mut Area,
-    depth: u32,
     cert: &Cert,
     reached: &mut Reached,
-    hinter: &mut H,
-    guide: &mut G,
+    advisers: &mut SearchAdvisers<H, G>,
     taker: &mut T,
     out: &mut O,
 ) -> Result<Capped, TakeStop>
-    requires stands { StandsIn ground.now (seen area.old) depth reached.old }
-    requires within { reached.old.spent ≤ ground.now.budget }
-    requires none { reached.old.own ≡ None }
+    requires can { GoesOn (T.ready taker.old out.old) ground.now (seen area.old) reached.old }
     requires part { IsSplitPart (program_of ground.now) (seen area.old) cert.now }
-    requires ready { T.ready taker.old out.old }
-    ensures as_before { OnOk result (map view_of area.new ≡ map view_of area.old) }
-    ensures ready { OnOk result (T.ready taker.new out.new) }
-    ensures within { OnOk result (reached.new.spent ≤ ground.now.budget) }
-    ensures none { OnOk result (reached.new.own ≡ None) }
+    ensures left { OnOk result (LeavesOff (T.ready taker.new out.new) ground.now area.old area.new
+        reached.new) }
     ensures places { length reached.new.point.items ≡ length reached.old.point.items }
     ensures handed { IfOk result
         (λ cap. BoxHanded T.took (λ parent. parent
@@ -342,11 +316,11 @@ fn search_part<H: Hinter, G: Guide, O, T: NodeTaker<Rows, O>>(
     ensures later { T.faults out.old ≤ T.faults out.new }
     ensures failed { IsErrOf result TakeStop.Failed → Rose (T.faults out.old) (T.faults out.new) }
 {
-    if reached.spent == ground.budget || is_left(ground, area, depth, guide) {
+    if reached.spent == ground.budget || is_left(ground, area, reached.depth, advisers.guide) {
         return leave_open(ground, area, cert, taker, out);
     }
     reached.held = Some(copied_cert(ground.alloc, cert)?);
-    search_box(ground, area, depth, reached, hinter, guide, taker, out)
+    search_box(ground, area, reached, advisers, taker, out)
 }
 
 // Whether the guide leaves a part of a split open, and may.

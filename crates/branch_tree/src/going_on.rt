@@ -12,7 +12,7 @@ ghost use Rattle.branch_tree.specs.laws.Going.{CanGoOn, HandsBox, HasLeft};
 ghost use Rattle.branch_tree.specs.laws.Grounds.{program_of, rows_of, seen};
 ghost use Rattle.branch_tree.specs.laws.Stops.{BoxStopped};
 
-use crate::boxes::search_box;
+use crate::boxes::{SearchAdvisers, search_box};
 use crate::found::{better, is_chosen, tested};
 use crate::picking::splits_of;
 use crate::reached::{Ground, Reached};
@@ -87,6 +87,7 @@ impl<'a> GoingOn<'a> {
                 may_leave: true,
             },
             reached: Reached {
+                depth: 0,
                 spent: 0,
                 best,
                 own: None,
@@ -170,23 +171,23 @@ impl<'a> GoingOn<'a> {
             → CanGoOn most rows self.new) }
         ensures as_before { OnOk result (map view_of area.new ≡ map view_of area.old) }
         ensures ready { OnOk result (T.ready taker.new out.new) }
-        ensures handed { IfOk result (λ cap. HandsBox T.took self.old held (seen area.old)
-            cap taker.old out.old self.new taker.new out.new) }
+        ensures handed { IfOk result (λ cap. HandsBox T.took self.old depth held
+            (seen area.old) cap taker.old out.old self.new taker.new out.new) }
         ensures err { OnErr result (BoxStopped T.took T.broke (rows_of self.old.ground)
             self.old.ground.floors (seen area.old) taker.old out.old taker.new out.new) }
         ensures later { T.faults out.old ≤ T.faults out.new }
         ensures failed { IsErrOf result TakeStop.Failed
             → Rose (T.faults out.old) (T.faults out.new) }
     {
+        self.reached.depth = depth;
         self.reached.held = Some(held);
         self.reached.changed = None;
+        let mut advisers = SearchAdvisers { hinter, guide };
         search_box(
             &self.ground,
             area,
-            depth,
             &mut self.reached,
-            hinter,
-            guide,
+            &mut advisers,
             taker,
             out,
         )

@@ -27,6 +27,8 @@ pub(crate) struct Ground<'a> {
 // How far a search has come.
 #[derive(Drop)]
 pub(crate) struct Reached {
+    // How many splits the next box stands below.
+    pub depth: u32,
     // The counted boxes.
     pub spent: u32,
     // The best point found so far.

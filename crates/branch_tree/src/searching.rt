@@ -9,7 +9,7 @@ ghost use Rattle.row_relax.specs.Choices.{HaveImages, choices_of};
 ghost use Rattle.row_relax.specs.RowProofs.{RowTree};
 ghost use Rattle.branch_tree.specs.laws.Grounds.{IsGround, IsOffered, IsStart, program_of, rows_of, choices_at};
 
-use crate::boxes::{search_box, worth_of};
+use crate::boxes::{SearchAdvisers, search_box, worth_of};
 use crate::copies::RowCopier;
 use crate::ended::{Ended, Guided, Searched};
 use crate::found::{better, put_least, tested};
@@ -46,6 +46,7 @@ fn begun(alloc: Global, rows: &Rows, start: &[u8]) -> Result<Reached, AllocError
     put_least(choices.root.as_slice(), &mut least);
     let own = offered(alloc, choices, least.as_slice(), start)?;
     Ok(Reached {
+        depth: 0,
         spent: 0,
         best: None,
         own,
@@ -87,16 +88,8 @@ fn search_root<H: Hinter, G: Guide, O, T: NodeTaker<Rows, O>>(
 {
     let mut reached = begun(ground.alloc, ground.rows, start)?;
     let mut area = ground.rows.root_area(ground.alloc)?;
-    let cap = search_box(
-        ground,
-        &mut area,
-        0,
-        &mut reached,
-        hinter,
-        guide,
-        taker,
-        out,
-    )?;
+    let mut advisers = SearchAdvisers { hinter, guide };
+    let cap = search_box(ground, &mut area, &mut reached, &mut advisers, taker, out)?;
     let left_open = exceeds(cap, worth_of(&reached.best));
     let Reached { best, spent, .. } = reached;
     Ok(Ended {

@@ -1,6 +1,6 @@
 //! The kernel is factored anew.
 use crate::kernel::Kernel;
-use crate::parts::scatter;
+use crate::parts::{KernelRows, scatter};
 use crate::simplex::Simplex;
 use fixed_point::{
     GROWTH, LEAST_PIVOT, NOISE, NONE, ONE, Part, at, magnitude, numbered, place_at, put, put_last,
@@ -143,16 +143,12 @@ impl Simplex {
     // Puts the column of a row's variable at a place.
     fn put_slack(&mut self, chains: &Chains, place: u32, variable: u32) {
         let column = self.work.column.as_mut_slice();
-        scatter(
+        let rows = KernelRows {
             chains,
-            &self.kernel,
-            &self.extra,
-            &self.columns,
-            &self.own,
-            variable,
-            ONE,
-            column,
-        );
+            kernel: &self.kernel,
+            extra: &self.extra,
+        };
+        scatter(&rows, &self.columns, &self.own, variable, ONE, column);
         self.kernel.solve(column);
         put_eta(&mut self.kernel, column, place, at(column, place));
     }

@@ -1,5 +1,5 @@
 //! Profits and values of where the basis stands.
-use crate::parts::write_sums;
+use crate::parts::{KernelRows, write_sums};
 use crate::simplex::Simplex;
 use fixed_point::{NO_PROFIT, ONE, at, numbered, put, refill, scaled, times};
 use row_chains::Chains;
@@ -9,12 +9,12 @@ impl Simplex {
     /// Writes the profits of all variables.
     pub fn write_profits(&mut self, chains: &Chains) {
         self.put_prices();
-        self.kernel.solve_back(self.work.multipliers.as_mut_slice());
-        let multipliers = self.work.multipliers.as_slice();
-        let sums = &mut self.work.sums;
-        write_sums(chains, &self.kernel, &self.extra, multipliers, 0, sums);
-        self.kernel.write_raw(multipliers, &mut self.work.raw);
-        blank(self.work.multipliers.as_mut_slice());
+        let rows = KernelRows {
+            chains,
+            kernel: &self.kernel,
+            extra: &self.extra,
+        };
+        write_sums(&rows, 0, &mut self.work);
         self.write_column_profits();
         self.work.sums.clear();
         self.write_row_profits();

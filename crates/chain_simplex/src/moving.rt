@@ -2,7 +2,7 @@
 use crate::entering::Entering;
 use crate::factoring::put_eta;
 use crate::leaving::Leaving;
-use crate::parts::scatter;
+use crate::parts::{KernelRows, scatter};
 use crate::simplex::Simplex;
 use fixed_point::{FEASIBLE, ONE, at, magnitude, put, put_place, quotient, times};
 use row_chains::Chains;
@@ -22,10 +22,12 @@ impl Simplex {
     /// Writes the column of a variable; whether its part at a place is what the row of that place says.
     pub fn write_column(&mut self, chains: &Chains, variable: u32, place: u32) -> bool {
         let column = self.work.column.as_mut_slice();
-        let (kernel, extra, columns) = (&self.kernel, &self.extra, &self.columns);
-        scatter(
-            chains, kernel, extra, columns, &self.own, variable, ONE, column,
-        );
+        let rows = KernelRows {
+            chains,
+            kernel: &self.kernel,
+            extra: &self.extra,
+        };
+        scatter(&rows, &self.columns, &self.own, variable, ONE, column);
         self.kernel.solve(column);
         let part = self.work.part(variable);
         let other = at(self.work.column.as_slice(), place);
@@ -68,10 +70,12 @@ impl Simplex {
         self.own.set_state(variable, state);
         self.move_by(variable, change);
         let flipped = self.work.flipped.as_mut_slice();
-        let (kernel, extra, columns) = (&self.kernel, &self.extra, &self.columns);
-        scatter(
-            chains, kernel, extra, columns, &self.own, variable, change, flipped,
-        );
+        let rows = KernelRows {
+            chains,
+            kernel: &self.kernel,
+            extra: &self.extra,
+        };
+        scatter(&rows, &self.columns, &self.own, variable, change, flipped);
     }
 
     // Changes the value of a variable, and notes how features change by it, unless only the kernel is kept up to date.

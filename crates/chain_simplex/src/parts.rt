@@ -4,15 +4,31 @@ use fixed_point::{NOISE, ONE, at, magnitude, put};
 use row_chains::Chains;
 use simplex_state::{Columns, Extra, Features, State, Variables, Work, blank};
 
-/// Writes what the multipliers of the rows of the kernel come to for each feature. Those up to `noise` count as 0.
-pub fn write_sums(
-    chains: &Chains,
-    kernel: &Kernel,
-    extra: &Extra,
-    multipliers: &[i64],
-    noise: i64,
-    sums: &mut Features,
-) {
+/// The rows of the kernel with what they count: those of the chains, and the one more of a trial.
+#[derive(Clone, Copy)]
+pub struct KernelRows<'a> {
+    pub chains: &'a Chains,
+    pub kernel: &'a Kernel,
+    pub extra: &'a Extra,
+}
+
+/// Writes what the multipliers of basic variables come to for each feature, and for each row of the kernel; they are 0 afterwards.
+/// For features, those of rows up to `noise` count as 0.
+pub fn write_sums(rows: &KernelRows, noise: i64, work: &mut Work) {
+    rows.kernel.solve_back(work.multipliers.as_mut_slice());
+    let multipliers = work.multipliers.as_slice();
+    add_sums(rows, multipliers, noise, &mut work.sums);
+    rows.kernel.write_raw(multipliers, &mut work.raw);
+    blank(work.multipliers.as_mut_slice());
+}
+
+// Adds what the rows of the kernel count of each feature, times their multipliers beyond `noise`.
+fn add_sums(rows: &KernelRows, multipliers: &[i64], noise: i64, sums: &mut Features) {
+    let KernelRows {
+        chains,
+        kernel,
+        extra,
+    } = *rows;
     for place in 0..kernel.count() {
         let multiplier = at(multipliers, place);
         if magnitude(multiplier) > noise {
@@ -28,33 +44,15 @@ pub fn write_sums(
 
 /// Writes the parts of the row of a basic variable, by its place.
 pub fn write_row(
-    chains: &Chains,
-    kernel: &Kernel,
-    extra: &Extra,
+    rows: &KernelRows,
     columns: &Columns,
     own: &Variables,
     work: &mut Work,
     place: u32,
 ) {
     put(work.multipliers.as_mut_slice(), place, ONE);
-    write_parts(chains, kernel, extra, columns, own, work);
-}
-
-// Writes the parts of the row that the multipliers of basic variables make.
-fn write_parts(
-    chains: &Chains,
-    kernel: &Kernel,
-    extra: &Extra,
-    columns: &Columns,
-    own: &Variables,
-    work: &mut Work,
-) {
-    kernel.solve_back(work.multipliers.as_mut_slice());
-    let multipliers = work.multipliers.as_slice();
-    write_sums(chains, kernel, extra, multipliers, NOISE, &mut work.sums);
-    kernel.write_raw(multipliers, &mut work.raw);
-    blank(work.multipliers.as_mut_slice());
-    list_parts(kernel, columns, own, work);
+    write_sums(rows, NOISE, work);
+    list_parts(rows.kernel, columns, own, work);
 }
 
 /// Lists the parts that sums and multipliers come to, of the variables that stand at their ends; the sums are 0 afterwards.
@@ -106,9 +104,7 @@ fn list_rows(kernel: &Kernel, own: &Variables, work: &mut Work) {
 
 /// Adds so many units of a variable to a column by rows of the kernel.
 pub fn scatter(
-    chains: &Chains,
-    kernel: &Kernel,
-    extra: &Extra,
+    rows: &KernelRows,
     columns: &Columns,
     own: &Variables,
     variable: u32,
@@ -116,16 +112,17 @@ pub fn scatter(
     column: &mut [i64],
 ) {
     if variable >= own.rows_from {
-        scatter_slack(kernel, variable.saturating_sub(own.rows_from), by, column);
+        let row = variable.saturating_sub(own.rows_from);
+        scatter_slack(rows.kernel, row, by, column);
         return;
     }
     let units = columns.column(variable);
     if units.started != 0 {
-        scatter_feature(chains, kernel, extra, variable & !1, by, column);
+        scatter_feature(rows, variable & !1, by, column);
     }
     if units.quanta != 0 {
         let by = fixed_point::scaled(by, units.quanta);
-        scatter_feature(chains, kernel, extra, variable | 1, by, column);
+        scatter_feature(rows, variable | 1, by, column);
     }
 }
 
@@ -144,14 +141,12 @@ fn scatter_slack(kernel: &Kernel, row: u32, by: i64, column: &mut [i64]) {
 }
 
 // Adds so much of a feature.
-fn scatter_feature(
-    chains: &Chains,
-    kernel: &Kernel,
-    extra: &Extra,
-    feature: u32,
-    by: i64,
-    column: &mut [i64],
-) {
+fn scatter_feature(rows: &KernelRows, feature: u32, by: i64, column: &mut [i64]) {
+    let KernelRows {
+        chains,
+        kernel,
+        extra,
+    } = *rows;
     let parts = chains.by_feature.list(feature);
     for part in parts {
         let next = fixed_point::place_at(kernel.next.as_slice(), part.place);

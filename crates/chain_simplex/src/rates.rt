@@ -1,10 +1,10 @@
 //! What a sum costs by one dual step.
-use crate::parts::{list_parts, write_sums};
+use crate::parts::{KernelRows, list_parts, write_sums};
 use crate::simplex::Simplex;
 use fixed_point::{LEAST_PART, NOISE, magnitude, of_whole, quotient};
 use row_chains::Chains;
 use row_kit::Entry;
-use simplex_state::{State, blank};
+use simplex_state::State;
 
 /// What one unit of a fall of a sum costs by one dual step, and what one of a rise does; None where no step leads there.
 #[derive(Clone, Copy, PartialEq, Eq, Debug)]
@@ -23,12 +23,12 @@ impl Simplex {
             self.put_basic(term.slot.saturating_mul(2), term, shift);
             self.put_basic(term.slot.saturating_mul(2) | 1, term, shift);
         }
-        self.kernel.solve_back(self.work.multipliers.as_mut_slice());
-        let multipliers = self.work.multipliers.as_slice();
-        let sums = &mut self.work.sums;
-        write_sums(chains, &self.kernel, &self.extra, multipliers, NOISE, sums);
-        self.kernel.write_raw(multipliers, &mut self.work.raw);
-        blank(self.work.multipliers.as_mut_slice());
+        let rows = KernelRows {
+            chains,
+            kernel: &self.kernel,
+            extra: &self.extra,
+        };
+        write_sums(&rows, NOISE, &mut self.work);
         for term in terms {
             self.take_term(term.slot.saturating_mul(2), term.fixed, shift);
             self.take_term(term.slot.saturating_mul(2) | 1, term.per, shift);

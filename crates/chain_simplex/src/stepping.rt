@@ -2,7 +2,7 @@
 use crate::appending::append;
 use crate::entering::choose;
 use crate::leaving::{Leaving, most_broken};
-use crate::parts::write_row;
+use crate::parts::{KernelRows, write_row};
 use crate::simplex::Simplex;
 use fixed_point::{FEASIBLE, NONE, put_last};
 use row_chains::Chains;
@@ -86,15 +86,12 @@ impl Simplex {
 
     // Mends a basic variable.
     fn mend(&mut self, chains: &Chains, leaving: &Leaving, place: u32) -> Option<End> {
-        write_row(
+        let rows = KernelRows {
             chains,
-            &self.kernel,
-            &self.extra,
-            &self.columns,
-            &self.own,
-            &mut self.work,
-            place,
-        );
+            kernel: &self.kernel,
+            extra: &self.extra,
+        };
+        write_row(&rows, &self.columns, &self.own, &mut self.work, place);
         match choose(&self.own, &mut self.work, leaving) {
             Err(left) => self.give_up(chains, leaving, place, left),
             Ok(entering) => {

@@ -13,7 +13,7 @@ ghost use Rattle.store_frames.specs.Frames.{OnlyReads};
 
 use crate::pieces::{Piece, next_part, piece_of};
 use crate::seen::next_line;
-use crate::tail::Counts;
+use crate::tail::{Counts, Reach};
 use derived_rows::Derived;
 use log_lines::Defect;
 use std::alloc::{AllocError, Global};
@@ -23,8 +23,7 @@ use sum_lines::{Halt, Walk};
 // So many parts of a row, which come next, for a row without parts. After an error the row has a first part of them.
 pub(crate) fn read_parts<F: Shelf>(
     alloc: Global,
-    slots: u32,
-    rows: u32,
+    reach: Reach,
     counts: &Counts,
     derived: &mut Derived,
     walk: &mut Walk,
@@ -36,7 +35,7 @@ pub(crate) fn read_parts<F: Shelf>(
     requires passed { (start number : ℕ) × (lines : Items TailLine)
         × HasPassed (F.files files.old) name.now start number lines walk.old }
     ensures counts { OnOk result (counts_of derived.new ≡ counts.now) }
-    ensures parts { ArePartsKept slots rows derived.new }
+    ensures parts { ArePartsKept reach.slots reach.rows derived.new }
     ensures head { HasHead derived.old derived.new }
     ensures goes { OnOk result ((start number : ℕ) (lines : Items TailLine)
         → HasPassed (F.files files.old) name.now start number lines walk.old
@@ -45,14 +44,14 @@ pub(crate) fn read_parts<F: Shelf>(
     ensures bad { (defect : Defect) → result ≡ Err (halt.Bad defect)
         → (start number : ℕ) (lines : Items TailLine)
         → HasPassed (F.files files.old) name.now start number lines walk.old
-        → HasBadParts (F.files files.old) name.now start number slots rows derived.old
-        counts.now lines defect }
+        → HasBadParts (F.files files.old) name.now start number reach.slots reach.rows
+        derived.old counts.now lines defect }
     ensures frame { OnlyReads F.Shelf files.old files.new }
     ensures fault { result ≡ Err (halt.Stopped Failed)
         → Rose (F.read_faults files.old) (F.read_faults files.new) }
 {
     'parts: while is_short(derived, counts) {
-        match next_piece(alloc, slots, rows, counts, derived, walk, files, name) {
+        match next_piece(alloc, reach, counts, derived, walk, files, name) {
             Ok(piece) => add_piece(derived, piece)?,
             Err(halt) => return Err(halt),
         }
@@ -72,8 +71,7 @@ fn is_short(derived: &Derived, counts: &Counts) -> bool
 // The part that comes next.
 fn next_piece<F: Shelf>(
     alloc: Global,
-    slots: u32,
-    rows: u32,
+    reach: Reach,
     counts: &Counts,
     derived: &Derived,
     walk: &mut Walk,
@@ -84,7 +82,7 @@ fn next_piece<F: Shelf>(
     requires passed { (start number : ℕ) × (lines : Items TailLine)
         × HasPassed (F.files files.old) name.now start number lines walk.old }
     ensures piece { IfOk result
-        (IsNextPiece slots rows derived.now (next_part derived.now counts.now)) }
+        (IsNextPiece reach.slots reach.rows derived.now (next_part derived.now counts.now)) }
     ensures goes { IfOk result (λ piece. (start number : ℕ) (lines : Items TailLine)
         → HasPassed (F.files files.old) name.now start number lines walk.old
         → HasPassed (F.files files.old) name.now start number
@@ -92,8 +90,8 @@ fn next_piece<F: Shelf>(
     ensures bad { (defect : Defect) → result ≡ Err (halt.Bad defect)
         → (start number : ℕ) (lines : Items TailLine)
         → HasPassed (F.files files.old) name.now start number lines walk.old
-        → HasBadPart (F.files files.old) name.now start number slots rows derived.now
-        (next_part derived.now counts.now) lines defect }
+        → HasBadPart (F.files files.old) name.now start number reach.slots reach.rows
+        derived.now (next_part derived.now counts.now) lines defect }
     ensures frame { OnlyReads F.Shelf files.old files.new }
     ensures fault { result ≡ Err (halt.Stopped Failed)
         → Rose (F.read_faults files.old) (F.read_faults files.new) }
@@ -101,7 +99,7 @@ fn next_piece<F: Shelf>(
     let line = walk.line;
     let next = next_part(derived, counts);
     let seen = next_line(alloc, walk, files, name)?;
-    match piece_of(slots, rows, derived, next, seen) {
+    match piece_of(reach, derived, next, seen) {
         Ok(piece) => Ok(piece),
         Err(kind) => Err(Halt::Bad(Defect { line, kind })),
     }

@@ -10,7 +10,7 @@ ghost use Rattle.derivation_lines.specs.laws.Walk.{MayBeSeen};
 
 use crate::line::TailLine;
 use crate::seen::Seen;
-use crate::tail::{Counts, Part};
+use crate::tail::{Counts, Part, Reach};
 use derived_rows::{Derived, Factor, Group, Members};
 use log_lines::kinds::{GRAMMAR, ROW_NUMBER, SLOT_NUMBER, TRUNCATED};
 use row_kit::Entry;
@@ -24,36 +24,30 @@ pub enum Piece {
 }
 
 // The part that is seen where one is to come, or the kind of its defect.
-pub(crate) fn piece_of(
-    slots: u32,
-    rows: u32,
-    derived: &Derived,
-    next: Part,
-    seen: Seen,
-) -> Result<Piece, u8>
+pub(crate) fn piece_of(reach: Reach, derived: &Derived, next: Part, seen: Seen) -> Result<Piece, u8>
     requires { MayBeSeen seen }
-    ensures { ReadsSeen slots rows derived.now next seen result }
+    ensures { ReadsSeen reach.slots reach.rows derived.now next seen result }
 {
     match seen {
         Seen::Cut => Err(TRUNCATED),
         Seen::Other => Err(GRAMMAR),
         Seen::Line(line) => match next {
-            Part::Factor => factor_of(slots, rows, derived, line),
-            Part::Group => group_of(slots, rows, derived, line),
-            Part::Entry => entry_of(slots, rows, derived, line),
+            Part::Factor => factor_of(reach, derived, line),
+            Part::Group => group_of(reach, derived, line),
+            Part::Entry => entry_of(reach, derived, line),
         },
     }
 }
 
 // The factor that a line is, above the last one, or the kind of its defect.
-fn factor_of(slots: u32, rows: u32, derived: &Derived, line: TailLine) -> Result<Piece, u8>
+fn factor_of(reach: Reach, derived: &Derived, line: TailLine) -> Result<Piece, u8>
     requires { IsTailLine line }
-    ensures { ReadsPiece slots rows derived.now part.Factor line result }
+    ensures { ReadsPiece reach.slots reach.rows derived.now part.Factor line result }
 {
     match line {
         TailLine::By { row, by } => {
             if follows(last_row(derived.factors.as_slice()), row) {
-                match there(rows, row) {
+                match there(reach.rows, row) {
                     Some(row) => Ok(Piece::Factor(Factor { row, by })),
                     None => Err(ROW_NUMBER),
                 }
@@ -66,19 +60,19 @@ fn factor_of(slots: u32, rows: u32, derived: &Derived, line: TailLine) -> Result
 }
 
 // The group that a line is, or the kind of its defect.
-fn group_of(slots: u32, rows: u32, derived: &Derived, line: TailLine) -> Result<Piece, u8>
+fn group_of(reach: Reach, derived: &Derived, line: TailLine) -> Result<Piece, u8>
     requires { IsTailLine line }
-    ensures { ReadsPiece slots rows derived.now part.Group line result }
+    ensures { ReadsPiece reach.slots reach.rows derived.now part.Group line result }
 {
     match line {
-        TailLine::Shift { row, shift } => match there(rows, row) {
+        TailLine::Shift { row, shift } => match there(reach.rows, row) {
             Some(row) => Ok(Piece::Group(Group {
                 members: Members::OfRow(row),
                 shift,
             })),
             None => Err(ROW_NUMBER),
         },
-        TailLine::Lift { slot, shift } => match there(slots, slot) {
+        TailLine::Lift { slot, shift } => match there(reach.slots, slot) {
             Some(slot) => Ok(Piece::Group(Group {
                 members: Members::One(slot),
                 shift,
@@ -90,14 +84,14 @@ fn group_of(slots: u32, rows: u32, derived: &Derived, line: TailLine) -> Result<
 }
 
 // The entry that a line is, above the last one, or the kind of its defect.
-fn entry_of(slots: u32, rows: u32, derived: &Derived, line: TailLine) -> Result<Piece, u8>
+fn entry_of(reach: Reach, derived: &Derived, line: TailLine) -> Result<Piece, u8>
     requires { IsTailLine line }
-    ensures { ReadsPiece slots rows derived.now part.Entry line result }
+    ensures { ReadsPiece reach.slots reach.rows derived.now part.Entry line result }
 {
     match line {
         TailLine::Entry { slot, fixed, per } => {
             if follows(last_slot(derived.entries.as_slice()), slot) {
-                match there(slots, slot) {
+                match there(reach.slots, slot) {
                     Some(slot) => Ok(Piece::Entry(Entry { slot, fixed, per })),
                     None => Err(SLOT_NUMBER),
                 }

@@ -33,6 +33,13 @@ pub struct Counts {
     pub entries: u32,
 }
 
+/// What a derived row may name: slots and rows below these.
+#[derive(Clone, Copy)]
+pub struct Reach {
+    pub slots: u32,
+    pub rows: u32,
+}
+
 /// A part of a derived row that has a line of its own.
 #[derive(Clone, Copy, PartialEq, Eq, Debug)]
 pub enum Part {

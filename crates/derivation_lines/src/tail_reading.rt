@@ -15,7 +15,7 @@ ghost use Rattle.store_frames.specs.Frames.{OnlyReads};
 use crate::beginning::{Begun, begin_derivation};
 use crate::parts::read_parts;
 use crate::seen::next_line;
-use crate::tail::{Tail, TailFront};
+use crate::tail::{Reach, Tail, TailFront};
 use derivations::Derivation;
 use log_lines::{Defect, Limits};
 use row_kit::List;
@@ -173,17 +173,11 @@ fn next_derivation<F: Shelf>(
         Begun::Bad(kind) => Err(Halt::Bad(Defect { line, kind })),
         Begun::Cut(cut) => Ok(Some(Derivation::Cut(cut))),
         Begun::Row(mut derived, counts) => {
-            let rows = limits.rows + before;
-            match read_parts(
-                alloc,
-                limits.slots,
-                rows,
-                &counts,
-                &mut derived,
-                walk,
-                files,
-                name,
-            ) {
+            let reach = Reach {
+                slots: limits.slots,
+                rows: limits.rows + before,
+            };
+            match read_parts(alloc, reach, &counts, &mut derived, walk, files, name) {
                 Ok(()) => Ok(Some(Derivation::Row(derived))),
                 Err(halt) => Err(halt),
             }

@@ -55,6 +55,14 @@ small_sound plant kept counts = record {
   rates = counts.rates;
   gaps = counts.gaps;
   lasts = counts.lasts;
+  unlabelled = record {
+    calendar = counts.unlabelled.calendar;
+    states = counts.unlabelled.states;
+    utilities = counts.unlabelled.utilities;
+    units = counts.unlabelled.units;
+    tasks = counts.unlabelled.tasks;
+    colours = counts.unlabelled.colours;
+  };
 }
 
 alike : (plant : Plant) (kept : List Bool) → AreAlike (alone plant kept) plant
@@ -66,7 +74,7 @@ unfolding alone
 last_sound plant kept last sound = record { task = sound.task; early = sound.early; late = sound.late }
 
 unit_sound : (plant : Plant) (kept : List Bool) (unit : StnUnit) → SoundUnit plant unit → SoundUnit (alone plant kept) unit
-unit_sound plant kept unit sound = record { name = sound.name; last = IfSome_then unit.last sound.last (last_sound plant kept) }
+unit_sound plant kept unit sound = record { name = sound.name; label = sound.label; last = IfSome_then unit.last sound.last (last_sound plant kept) }
 
 delivery_sound : (plant : Plant) (kept : List Bool) (delivery : Delivery) → SoundDelivery plant delivery → SoundDelivery (alone plant kept) delivery
 unfolding alone
@@ -80,6 +88,7 @@ fewer_sound plant kept each sound =
     let same = alike plant kept in
     record {
       counts = counts_sound plant kept sound.counts;
+      calendar = sound.calendar;
       small = λ is. small_sound plant kept (sound.small is);
       names = record { states = sound.names.states; utilities = sound.names.utilities; units = sound.names.units; tasks = sound.names.tasks; runs = sound.names.runs };
       states = sound.states;

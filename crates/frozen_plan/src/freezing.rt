@@ -37,7 +37,8 @@ pub fn freeze(
 
     // The plans that it admits are exactly the feasible ones that agree.
     ensures exact { IfOk result (λ frozen. IfSome frozen (λ rows. (plan : Items Start)
-        → IsAdmitted plant.now rows.program plan ↔ (Feasible plant.now plan × Agrees period kept.now plan))) }
+        → IsAdmitted plant.now rows.program plan
+        ↔ (Feasible plant.now plan × Agrees period kept.now plan))) }
 
     // Its lawful points are exactly the points of the feasible plans that agree.
     ensures lawful { IfOk result (λ frozen. IfSome frozen (λ rows. (point : Items ℕ)
@@ -70,7 +71,8 @@ fn frozen_root(
     requires grid { IsGrid plant.now grid.now }
     requires whole { whole.now ≡ map (slot_domain plant.now) (slots plant.now) }
     ensures some { IfOk result (λ frozen. IsSome frozen ↔ HasPoint plant.now kept.now) }
-    ensures root { IfOk result (λ frozen. IfSome frozen (λ root. root ≡ frozen_root plant.now period kept.now)) }
+    ensures root { IfOk result (λ frozen. IfSome frozen
+        (λ root. root ≡ frozen_root plant.now period kept.now)) }
 {
     let mut point = vec![in alloc; 0u8; grid.slot_count() as usize]?;
     if !grid.point_of(plant, kept, &mut point) {

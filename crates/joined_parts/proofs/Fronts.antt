@@ -9,7 +9,7 @@ use Rattle.log_lines.specs.declared.defect.Defect.{Defect}
 use Rattle.log_lines.specs.declared.grammar.Limits.{Limits}
 use Rattle.derivations.specs.Growth.{rows_of}
 use Rattle.sum_lines.specs.declared.head.Front.{Front}
-use Rattle.sum_lines.specs.declared.head.Front.TheVariants.{Bad, Plain}
+use Rattle.sum_lines.specs.declared.head.Front.TheVariants.{Bad, Headed, Plain}
 use Rattle.sum_lines.specs.declared.head.Head.{Head}
 use Rattle.sum_lines.specs.Front.{IsFront}
 use Rattle.sum_lines.specs.Head.{AreKept, IsHeadVersion, IsKeptHead, head_text, lines_of}
@@ -47,6 +47,19 @@ bad_read plant program depth None name f defect is stands = tt
 bad_read plant program depth (Some m) name f defect is stands =
     let own = subst (IsFront (limits_with program depth 0) (file_of m name)) is stands in
     record { front = Bad defect; stands = subst (λ (l : Limits). IsFront l (file_of m name) (Bad defect)) (sym (limits_same program depth)) own; has = refl }
+
+-- a head that was read, and what stands behind its sums
+pub headed_read : (plant : Plant) (program : Program) (depth : ℕ) (files now : Option FileMap) (name : List ℕ) (f : Front) (own : Head) (said : LogFront) → now ≡ files → f ≡ Headed own
+    → IfSome files (λ m. IsFront (limits_with program depth 0) (file_of m name) f) → IfSome now (λ m. IsHeadFront plant (limits_of (plain program) depth) (file_of m name) own said)
+    → IfSome files (λ m. IsLogFront plant (limits_of (plain program) depth) (file_of m name) said)
+headed_read plant program depth None now name f own said same is stands has = tt
+headed_read plant program depth (Some m) now name f own said same is stands has =
+    let first = subst (IsFront (limits_with program depth 0) (file_of m name)) is stands in
+    record {
+      front = Headed own;
+      stands = subst (λ (l : Limits). IsFront l (file_of m name) (Headed own)) (sym (limits_same program depth)) first;
+      has = subst (λ (files : Option FileMap). IfSome files (λ m. IsHeadFront plant (limits_of (plain program) depth) (file_of m name) own said)) same has;
+    }
 
 -- setups that were read behind the sums of a head, and what stands behind them
 pub setups_read : (plant : Plant) (program : Program) (depth : ℕ) (files now : Option FileMap) (name : List ℕ) (own : Head) (set : SetupFront) (setups : Setups) (said : LogFront) → now ≡ files → set ≡ setting.Whole setups

@@ -1,14 +1,13 @@
 //! The check of the logs of all parts.
-ghost use Rattle.std.specs.Prelude.{◌≡◌, ◌⊎◌, ◌↔◌, true, ◌≤◌, ◌<◌, ◌^◌, ◌-◌, ℕ, [], ◌∷◌, ◌++◌, IsTrue, IfOk, IfSome, OnOk, Err, length};
+ghost use Rattle.std.specs.Prelude.{◌≡◌, ◌⊎◌, ◌↔◌, true, ◌≤◌, ◌<◌, ◌^◌, ◌-◌, ℕ, [], ◌∷◌, ◌++◌, IsTrue, IfOk, IfSome, OnOk, Err};
 ghost use Rattle.stn_edge.specs.Count.{Rose};
 ghost use Rattle.stn_model.specs.Points.{depth_limit};
-ghost use Rattle.stn_model.specs.Sound.{Sound};
-ghost use Rattle.time_grid.specs.Slots.{slots};
 ghost use Rattle.proof_log.specs.LogNames.{log_name};
 ghost use Rattle.log_parts.specs.PartLogs.{logs_of};
 ghost use Rattle.log_parts.specs.declared.heads.LogFront.TheVariants.{Whole};
 ghost use Rattle.log_parts.specs.laws.Checked.{AreChecked, AllSay, IsFrontKept, IsFrontOf, IsHeadKept, IsLogFront, IsPartCheck, PartSays, head_limits};
 ghost use Rattle.store_frames.specs.Frames.{OnlyReads};
+ghost use Rattle.joined_parts.specs.laws.Divided.{IsDivided};
 
 use crate::heads::read_front;
 use log_check::CheckStop;
@@ -33,10 +32,7 @@ pub(crate) fn check_parts<F: Shelf>(
     files: &mut F,
     stem: &str,
 ) -> Result<Checked, CheckStop>
-    requires sound { Sound plant.now }
-    requires least { 1 ≤ levels }
-    requires most { levels ≤ 8 }
-    requires slots { levels ≤ length (slots plant.now) }
+    requires divided { IsDivided plant.now levels }
     requires allowed { (part : ℕ) → part < 2 ^ levels
         → IsTrue (F.may_read files.old (log_name stem.now part)) }
     ensures checked { IfOk result (λ said. IfSome (F.files files.old)
@@ -64,10 +60,7 @@ fn check_logs<F: Shelf>(
     files: &mut F,
     stem: &str,
 ) -> Result<Checked, CheckStop>
-    requires sound { Sound plant.now }
-    requires least { 1 ≤ levels }
-    requires most { levels ≤ 8 }
-    requires slots { levels ≤ length (slots plant.now) }
+    requires divided { IsDivided plant.now levels }
     requires allowed { (part : ℕ) → part < 2 ^ levels
         → IsTrue (F.may_read files.old (log_name stem.now part)) }
     requires kept { IsHeadKept plant.now (head_limits plant.now levels) first }
@@ -139,10 +132,7 @@ fn first_front<F: Shelf>(
     files: &mut F,
     stem: &str,
 ) -> Result<LogFront, CheckStop>
-    requires sound { Sound plant.now }
-    requires least { 1 ≤ levels }
-    requires most { levels ≤ 8 }
-    requires slots { levels ≤ length (slots plant.now) }
+    requires divided { IsDivided plant.now levels }
     requires allowed { IsTrue (F.may_read files.old (log_name stem.now 0)) }
     ensures front { IfOk result (λ front. IfSome (F.files files.old)
         (λ m. IsFrontOf plant.now levels 0 (logs_of m stem.now 0) front)) }
@@ -169,10 +159,7 @@ fn check_log<F: Shelf>(
     files: &mut F,
     stem: &str,
 ) -> Result<PartCheck, CheckStop>
-    requires sound { Sound plant.now }
-    requires least { 1 ≤ levels }
-    requires most { levels ≤ 8 }
-    requires slots { levels ≤ length (slots plant.now) }
+    requires divided { IsDivided plant.now levels }
     requires part { part < 2 ^ levels }
     requires allowed { IsTrue (F.may_read files.old (log_name stem.now part)) }
     ensures checked { IfOk result (λ said. IfSome (F.files files.old)

@@ -8,7 +8,9 @@ ghost use Rattle.proof_log.specs.LogNames.{log_name};
 ghost use Rattle.log_parts.specs.PartLogs.{IsJoiningIn, JoinSays, IsNo, LeavesJoin, AllAreValid};
 
 use crate::checking::check_parts;
-use log_parts::{Checked, JoinStop, Joined, joined, joined_version, write_joined};
+use log_parts::{
+    Checked, JoinStop, Joined, JoinedFront, PartLogs, joined, joined_version, write_joined,
+};
 use std::alloc::Global;
 use stn_edge::Shelf;
 use stn_model::Plant;
@@ -67,10 +69,17 @@ pub fn join<F: Shelf>(
         } => {
             let claim = joined(claims);
             let version = joined_version(newest, declared.sums.as_slice());
-            let counts = heads.as_slice();
-            write_joined(
-                alloc, plant, levels, version, &declared, limits, counts, files, stem, name, claim,
-            )
+            let front = JoinedFront {
+                version,
+                declared: &declared,
+            };
+            let logs = PartLogs {
+                levels,
+                limits,
+                heads: heads.as_slice(),
+                stem,
+            };
+            write_joined(alloc, plant, logs, front, files, name, claim)
         }
         Checked::Bad { part, defect } => Ok(Joined::No { part, defect }),
     }

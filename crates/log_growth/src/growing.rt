@@ -1,19 +1,18 @@
 //! Two proofs read side by side.
-ghost use Rattle.std.specs.Prelude.{◌≡◌, ◌≤◌, ◌<◌, ◌+◌, ◌&&◌, ◌++◌, if◌then◌else◌, List as Items, Some, map, Err, IsTrue, IfOk, IfSome};
+ghost use Rattle.std.specs.Prelude.{◌≡◌, ◌<◌, ◌+◌, ◌&&◌, ◌++◌, if◌then◌else◌, List as Items, Some, Err, IsTrue, IfOk, IfSome};
 ghost use Rattle.stn_edge.specs.Count.{Rose};
 ghost use Rattle.range_prop.specs.declared.row_cut.RowCut.{RowCut};
-ghost use Rattle.row_relax.specs.View.{Fits, view_of};
+ghost use Rattle.row_relax.specs.View.{Fits};
 ghost use Rattle.branch_tree.specs.Deep.{is_deep};
 ghost use Rattle.log_nodes.specs.OpenEnds.{in_share};
-ghost use Rattle.log_nodes.specs.Reading.{IsReading, ReadsOn};
-ghost use Rattle.log_nodes.specs.declared.node.Ending.TheVariants.{Split};
-ghost use Rattle.log_growth.specs.laws.Grown.{HasGrown, HasGrownBelow, HasGrownParts};
+ghost use Rattle.log_nodes.specs.Reading.{IsReading};
+ghost use Rattle.store_frames.specs.Frames.{OnlyReads};
+ghost use Rattle.log_growth.specs.laws.Grown.{CanGrow, HasGrown, HasGrownBelow, HasGrownParts, HaveReadOn};
 ghost use Rattle.log_nodes.specs.laws.Seen.{seen};
 ghost use Rattle.log_nodes.specs.laws.Nodes.{IsLeafEnd, counted_leaf, leaf_of};
 
 use crate::counts::Growth;
 use branch_tree::is_deep;
-use dual_bound::Cert;
 use log_nodes::{
     Ending, Node, Pair, begins_with, boxes_of, cut_down, in_share, is_open, is_same_node,
     leaves_open, read_node, skip_below, sum_of,
@@ -22,13 +21,14 @@ use proof_log::LogReader;
 use proof_tree::{Relaxation, floor_cap};
 use range_prop::RowCut;
 use row_kit::Area;
-use row_relax::{RowPick, Rows};
+use row_relax::RowPick;
 use std::alloc::Global;
 use stn_edge::{Shelf, Stop};
 
-/// Both logs, as far as they were read.
+/// Both logs, as far as they were read, and what gives memory for more of them.
 #[derive(Drop)]
 pub struct Readers {
+    pub alloc: Global,
     pub log: LogReader,
     pub out: LogReader,
 }
@@ -46,50 +46,34 @@ pub struct Place {
 /// before.
 #[cycle(growing)]
 pub fn grown<F: Shelf>(
-    alloc: Global,
     pair: Pair,
     files: &mut F,
     readers: &mut Readers,
     area: &mut Area,
     place: Place,
 ) -> Result<Option<Growth>, Stop>
-    requires log_allowed { IsTrue (F.may_read files.old pair.log.now) }
-    requires out_allowed { IsTrue (F.may_read files.old pair.out.now) }
-    requires log_reading { IsReading (F.files files.old) pair.log.now readers.old.log }
-    requires out_reading { IsReading (F.files files.old) pair.out.now readers.old.out }
-    requires fits { Fits pair.rows.now.program (seen area.old) }
-    ensures grown { IfOk result (λ growth. IfSome growth (HasGrown pair.entry.most
+    requires can { CanGrow F.Shelf files.old pair.log.now pair.out.now readers.old
+        pair.rows.now (seen area.old) }
+    ensures grown { IfOk result (λ growth. IfSome growth (HaveReadOn (HasGrown pair.entry.most
         pair.entry.rows.now pair.entry.profit pair.entry.share place.depth place.number
-        (seen area.old)
-        (λ items. ReadsOn (F.files files.old) pair.entry.log.now readers.old.log items
-        readers.new.log)
-        (λ items. ReadsOn (F.files files.old) pair.entry.out.now readers.old.out items
-        readers.new.out))) }
-    ensures log_reading { IfOk result (λ growth. IfSome growth (λ _.
-        IsReading (F.files files.old) pair.entry.log.now readers.new.log)) }
-    ensures out_reading { IfOk result (λ growth. IfSome growth (λ _.
-        IsReading (F.files files.old) pair.entry.out.now readers.new.out)) }
-    ensures as_before { IfOk result (λ growth. IfSome growth (λ _.
-        map view_of area.new ≡ map view_of area.old)) }
-    ensures same { F.files files.new ≡ F.files files.old }
-    ensures readable { F.may_read files.new ≡ F.may_read files.old }
-    ensures writable { F.may_write files.new ≡ F.may_write files.old }
-    ensures later { F.read_faults files.old ≤ F.read_faults files.new }
-    ensures no_write { F.write_faults files.new ≡ F.write_faults files.old }
+        (seen area.old))
+        (F.files files.old) pair.entry.log.now pair.entry.out.now readers.old readers.new
+        area.old area.new)) }
+    ensures frame { OnlyReads F.Shelf files.old files.new }
     ensures fault { result ≡ Err Stop.Failed
         → Rose (F.read_faults files.old) (F.read_faults files.new) }
 {
-    let Some(node) = read_node(alloc, files, pair.log, &mut readers.log)? else {
+    let Some(node) = read_node(readers.alloc, files, pair.log, &mut readers.log)? else {
         return Ok(None);
     };
-    let Some(other) = read_node(alloc, files, pair.out, &mut readers.out)? else {
+    let Some(other) = read_node(readers.alloc, files, pair.out, &mut readers.out)? else {
         return Ok(None);
     };
     let mark = pair.rows.mark(area);
     if !cut_down(pair.rows, area, node.cuts.as_slice()) {
         return Ok(None);
     }
-    match grown_below(alloc, pair, files, readers, area, place, &node, &other)? {
+    match grown_below(pair, files, readers, area, place, &node, &other)? {
         Some(growth) => {
             pair.rows.back(area, mark);
             Ok(Some(growth))
@@ -101,7 +85,6 @@ pub fn grown<F: Shelf>(
 // Reads on below two nodes over an area after the cuts of the first.
 #[cycle(growing)]
 fn grown_below<F: Shelf>(
-    alloc: Global,
     pair: Pair,
     files: &mut F,
     readers: &mut Readers,
@@ -110,87 +93,26 @@ fn grown_below<F: Shelf>(
     node: &Node,
     other: &Node,
 ) -> Result<Option<Growth>, Stop>
-    requires log_allowed { IsTrue (F.may_read files.old pair.log.now) }
-    requires out_allowed { IsTrue (F.may_read files.old pair.out.now) }
-    requires log_reading { IsReading (F.files files.old) pair.log.now readers.old.log }
-    requires out_reading { IsReading (F.files files.old) pair.out.now readers.old.out }
-    requires fits { Fits pair.rows.now.program (seen area.old) }
-    ensures grown { IfOk result (λ growth. IfSome growth (HasGrownBelow pair.entry.most
+    requires can { CanGrow F.Shelf files.old pair.log.now pair.out.now readers.old
+        pair.rows.now (seen area.old) }
+    ensures grown { IfOk result (λ growth. IfSome growth (HaveReadOn (HasGrownBelow pair.entry.most
         pair.entry.rows.now pair.entry.profit pair.entry.share place.depth place.number
-        (seen area.old) node.now other.now
-        (λ items. ReadsOn (F.files files.old) pair.entry.log.now readers.old.log items
-        readers.new.log)
-        (λ items. ReadsOn (F.files files.old) pair.entry.out.now readers.old.out items
-        readers.new.out))) }
-    ensures log_reading { IfOk result (λ growth. IfSome growth (λ _.
-        IsReading (F.files files.old) pair.entry.log.now readers.new.log)) }
-    ensures out_reading { IfOk result (λ growth. IfSome growth (λ _.
-        IsReading (F.files files.old) pair.entry.out.now readers.new.out)) }
-    ensures as_before { IfOk result (λ growth. IfSome growth (λ _.
-        map view_of area.new ≡ map view_of area.old)) }
-    ensures same { F.files files.new ≡ F.files files.old }
-    ensures readable { F.may_read files.new ≡ F.may_read files.old }
-    ensures writable { F.may_write files.new ≡ F.may_write files.old }
-    ensures later { F.read_faults files.old ≤ F.read_faults files.new }
-    ensures no_write { F.write_faults files.new ≡ F.write_faults files.old }
+        (seen area.old) node.now other.now)
+        (F.files files.old) pair.entry.log.now pair.entry.out.now readers.old readers.new
+        area.old area.new)) }
+    ensures frame { OnlyReads F.Shelf files.old files.new }
     ensures fault { result ≡ Err Stop.Failed
         → Rose (F.read_faults files.old) (F.read_faults files.new) }
 {
-    match &node.end {
-        Ending::Split(pick, cert) => grown_split(
-            alloc, pair, files, readers, area, place, node, other, pick, cert,
-        ),
-        _ => grown_leaf(alloc, pair, files, readers, area, place, node, other),
-    }
-}
-
-// The same of a node that splits.
-#[cycle(growing)]
-fn grown_split<F: Shelf>(
-    alloc: Global,
-    pair: Pair,
-    files: &mut F,
-    readers: &mut Readers,
-    area: &mut Area,
-    place: Place,
-    node: &Node,
-    other: &Node,
-    pick: &RowPick,
-    cert: &Cert,
-) -> Result<Option<Growth>, Stop>
-    requires log_allowed { IsTrue (F.may_read files.old pair.log.now) }
-    requires out_allowed { IsTrue (F.may_read files.old pair.out.now) }
-    requires log_reading { IsReading (F.files files.old) pair.log.now readers.old.log }
-    requires out_reading { IsReading (F.files files.old) pair.out.now readers.old.out }
-    requires fits { Fits pair.rows.now.program (seen area.old) }
-    requires splits { node.now.end ≡ Split pick.now cert.now }
-    ensures grown { IfOk result (λ growth. IfSome growth (HasGrownBelow pair.entry.most
-        pair.entry.rows.now pair.entry.profit pair.entry.share place.depth place.number
-        (seen area.old) node.now other.now
-        (λ items. ReadsOn (F.files files.old) pair.entry.log.now readers.old.log items
-        readers.new.log)
-        (λ items. ReadsOn (F.files files.old) pair.entry.out.now readers.old.out items
-        readers.new.out))) }
-    ensures log_reading { IfOk result (λ growth. IfSome growth (λ _.
-        IsReading (F.files files.old) pair.entry.log.now readers.new.log)) }
-    ensures out_reading { IfOk result (λ growth. IfSome growth (λ _.
-        IsReading (F.files files.old) pair.entry.out.now readers.new.out)) }
-    ensures as_before { IfOk result (λ growth. IfSome growth (λ _.
-        map view_of area.new ≡ map view_of area.old)) }
-    ensures same { F.files files.new ≡ F.files files.old }
-    ensures readable { F.may_read files.new ≡ F.may_read files.old }
-    ensures writable { F.may_write files.new ≡ F.may_write files.old }
-    ensures later { F.read_faults files.old ≤ F.read_faults files.new }
-    ensures no_write { F.write_faults files.new ≡ F.write_faults files.old }
-    ensures fault { result ≡ Err Stop.Failed
-        → Rose (F.read_faults files.old) (F.read_faults files.new) }
-{
+    let Ending::Split(pick, cert) = &node.end else {
+        return grown_leaf(pair, files, readers, area, place, node, other);
+    };
     if place.depth >= pair.most || !is_same_node(node, other) {
         return Ok(None);
     }
     let mark = pair.rows.mark(area);
     let floor = floor_cap(pair.rows.trim(area, pick, cert));
-    match grown_parts(alloc, pair, files, readers, area, place, pick)? {
+    match grown_parts(pair, files, readers, area, place, pick)? {
         Some(growth) => {
             pair.rows.back(area, mark);
             Ok(with_split(leaves_open(&pair.profit, floor), growth))
@@ -202,7 +124,6 @@ fn grown_split<F: Shelf>(
 // Reads both parts of a split of an area in both logs.
 #[cycle(growing)]
 fn grown_parts<F: Shelf>(
-    alloc: Global,
     pair: Pair,
     files: &mut F,
     readers: &mut Readers,
@@ -210,30 +131,15 @@ fn grown_parts<F: Shelf>(
     place: Place,
     pick: &RowPick,
 ) -> Result<Option<Growth>, Stop>
-    requires log_allowed { IsTrue (F.may_read files.old pair.log.now) }
-    requires out_allowed { IsTrue (F.may_read files.old pair.out.now) }
-    requires log_reading { IsReading (F.files files.old) pair.log.now readers.old.log }
-    requires out_reading { IsReading (F.files files.old) pair.out.now readers.old.out }
-    requires fits { Fits pair.rows.now.program (seen area.old) }
+    requires can { CanGrow F.Shelf files.old pair.log.now pair.out.now readers.old
+        pair.rows.now (seen area.old) }
     requires depth { place.depth < pair.most }
-    ensures grown { IfOk result (λ growth. IfSome growth (HasGrownParts pair.entry.most
+    ensures grown { IfOk result (λ growth. IfSome growth (HaveReadOn (HasGrownParts pair.entry.most
         pair.entry.rows.now pair.entry.profit pair.entry.share place.depth place.number
-        (seen area.old) pick.now
-        (λ items. ReadsOn (F.files files.old) pair.entry.log.now readers.old.log items
-        readers.new.log)
-        (λ items. ReadsOn (F.files files.old) pair.entry.out.now readers.old.out items
-        readers.new.out))) }
-    ensures log_reading { IfOk result (λ growth. IfSome growth (λ _.
-        IsReading (F.files files.old) pair.entry.log.now readers.new.log)) }
-    ensures out_reading { IfOk result (λ growth. IfSome growth (λ _.
-        IsReading (F.files files.old) pair.entry.out.now readers.new.out)) }
-    ensures as_before { IfOk result (λ growth. IfSome growth (λ _.
-        map view_of area.new ≡ map view_of area.old)) }
-    ensures same { F.files files.new ≡ F.files files.old }
-    ensures readable { F.may_read files.new ≡ F.may_read files.old }
-    ensures writable { F.may_write files.new ≡ F.may_write files.old }
-    ensures later { F.read_faults files.old ≤ F.read_faults files.new }
-    ensures no_write { F.write_faults files.new ≡ F.write_faults files.old }
+        (seen area.old) pick.now)
+        (F.files files.old) pair.entry.log.now pair.entry.out.now readers.old readers.new
+        area.old area.new)) }
+    ensures frame { OnlyReads F.Shelf files.old files.new }
     ensures fault { result ≡ Err Stop.Failed
         → Rose (F.read_faults files.old) (F.read_faults files.new) }
 {
@@ -245,7 +151,7 @@ fn grown_parts<F: Shelf>(
         depth: place.depth + 1,
         number: place.number,
     };
-    let Some(first) = grown(alloc, pair, files, readers, area, left)? else {
+    let Some(first) = grown(pair, files, readers, area, left)? else {
         return Ok(None);
     };
     pair.rows.back(area, mark);
@@ -259,7 +165,7 @@ fn grown_parts<F: Shelf>(
         depth: place.depth + 1,
         number,
     };
-    let Some(second) = grown(alloc, pair, files, readers, area, right)? else {
+    let Some(second) = grown(pair, files, readers, area, right)? else {
         return Ok(None);
     };
     pair.rows.back(area, mark);
@@ -362,7 +268,6 @@ fn may_grow(pair: &Pair, open: bool, number: u64, node: &Node, other: &Node) -> 
 // The same of a node that does not split: the other is the same, or another proof stands in its place, where it is open and its
 // number is one of those that may be searched on.
 fn grown_leaf<F: Shelf>(
-    alloc: Global,
     pair: Pair,
     files: &mut F,
     readers: &mut Readers,
@@ -376,22 +281,12 @@ fn grown_leaf<F: Shelf>(
     requires out_reading { IsReading (F.files files.old) pair.out.now readers.old.out }
     requires fits { Fits pair.rows.now.program (seen area.now) }
     requires leaf { IsLeafEnd node.now.end }
-    ensures grown { IfOk result (λ growth. IfSome growth (HasGrownBelow pair.entry.most
+    ensures grown { IfOk result (λ growth. IfSome growth (HaveReadOn (HasGrownBelow pair.entry.most
         pair.entry.rows.now pair.entry.profit pair.entry.share place.depth place.number
-        (seen area.now) node.now other.now
-        (λ items. ReadsOn (F.files files.old) pair.entry.log.now readers.old.log items
-        readers.new.log)
-        (λ items. ReadsOn (F.files files.old) pair.entry.out.now readers.old.out items
-        readers.new.out))) }
-    ensures log_reading { IfOk result (λ growth. IfSome growth (λ _.
-        IsReading (F.files files.old) pair.entry.log.now readers.new.log)) }
-    ensures out_reading { IfOk result (λ growth. IfSome growth (λ _.
-        IsReading (F.files files.old) pair.entry.out.now readers.new.out)) }
-    ensures same { F.files files.new ≡ F.files files.old }
-    ensures readable { F.may_read files.new ≡ F.may_read files.old }
-    ensures writable { F.may_write files.new ≡ F.may_write files.old }
-    ensures later { F.read_faults files.old ≤ F.read_faults files.new }
-    ensures no_write { F.write_faults files.new ≡ F.write_faults files.old }
+        (seen area.now) node.now other.now)
+        (F.files files.old) pair.entry.log.now pair.entry.out.now readers.old readers.new
+        area.now area.now)) }
+    ensures frame { OnlyReads F.Shelf files.old files.new }
     ensures fault { result ≡ Err Stop.Failed
         → Rose (F.read_faults files.old) (F.read_faults files.new) }
 {
@@ -405,7 +300,7 @@ fn grown_leaf<F: Shelf>(
         return Ok(None);
     }
     match skip_below(
-        alloc,
+        readers.alloc,
         files,
         pair.out,
         &mut readers.out,

@@ -36,6 +36,7 @@ pub fn growth<F: Shelf>(
         → Rose (F.read_faults files.old) (F.read_faults files.new) }
 {
     let mut readers = Readers {
+        alloc,
         log: LogReader::begin_behind(alloc, log.limits, log.version, log.head)?,
         out: LogReader::begin_behind(alloc, out.limits, out.version, out.head)?,
     };
@@ -44,7 +45,7 @@ pub fn growth<F: Shelf>(
         depth: 0,
         number: 0,
     };
-    let Some(growth) = grown(alloc, pair, files, &mut readers, &mut area, root)? else {
+    let Some(growth) = grown(pair, files, &mut readers, &mut area, root)? else {
         return Ok(None);
     };
     let ends = read_end(files, pair.log, &mut readers.log)?;

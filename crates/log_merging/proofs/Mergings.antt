@@ -59,7 +59,7 @@ use Rattle.log_merging.specs.MergedLogs.{AreMergeable, IsLogToMerge, IsMergedLog
 use Rattle.merge_checks.specs.CheckedLogs.{AreValidTo, IsRefusedToMerge}
 use Rattle.merge_ends.specs.MergedClaims.{ComesBefore, IsClaimWith, IsOrder, cap_at}
 use Rattle.merge_checks.specs.laws.Checked.{AreChecked, AreCheckedTo, AreKnownTo}
-use Rattle.log_merging.specs.laws.Written.{HasWritten, IsWritten}
+use Rattle.log_merging.specs.laws.Written.{HasWritten, HasWrittenChecked, IsWritten}
 
 -- ---- the order
 
@@ -425,9 +425,8 @@ pub ok_then : {X E : Type 0} (result : Result X E) (P Q : X → Type 0) → ((x 
 ok_then (Ok x) P Q then_ is = then_ x is
 ok_then (Err e) P Q then_ is = tt
 
--- the same of what was written, where it is first known that something was
-pub merged-there : (work : Work) (best claim : Claim) (stem out : List ℕ) (old mid : Option FileMap) (found : Option Claim) → IfSome found (HasWritten work best stem out old mid) → found ≡ Some claim → (plant : Plant) (count : ℕ) (new : Option FileMap) (all : Logs) (order : List ℕ) → new ≡ mid
-    → work.first.now ≡ all.first → work.newest ≡ all.newest → work.fronts.now ≡ all.fronts.items → work.order.now ≡ order → IfSome old (λ m. AreCheckedTo plant count (logs_of m stem) all) → AreKnownTo count all → IsJoined all.claims.items best → IsOrder all.claims.items order
-    → IfSome mid (λ m. IsAnyChecked plant (file_of m out) (verdict.Yes claim)) → IsNoMore (resumed_cap best) (resumed_cap claim) → (IsTrue all.settled → ¬ IsOpenClaim claim) → IfSome old (λ m. IfSome new (λ n. IsMergedLog plant count (logs_of m stem) claim (file_of n out)))
-merged-there work best claim stem out old mid found written is plant count new all order same first_is newest_is fronts_are order_is checked known joined ordered valid cap settled =
-    merged-told plant count stem out old mid new all order work best claim same first_is newest_is fronts_are order_is checked known joined ordered (subst (λ (o : Option Claim). IfSome o (HasWritten work best stem out old mid)) is written) valid cap settled
+-- the same of what was written and checked
+pub merged-checked : (work : Work) (best claim : Claim) (stem out : List ℕ) (old new : Option FileMap) (plant : Plant) (count : ℕ) (all : Logs) (order : List ℕ) → work.first.now ≡ all.first → work.newest ≡ all.newest → work.fronts.now ≡ all.fronts.items → work.order.now ≡ order → IfSome old (λ m. AreCheckedTo plant count (logs_of m stem) all) → AreKnownTo count all → IsJoined all.claims.items best → IsOrder all.claims.items order
+    → HasWrittenChecked plant work best all.settled stem out old new claim → IfSome old (λ m. IfSome new (λ n. IsMergedLog plant count (logs_of m stem) claim (file_of n out)))
+merged-checked work best claim stem out old new plant count all order first_is newest_is fronts_are order_is checked known joined ordered has =
+    merged-told plant count stem out old new new all order work best claim refl first_is newest_is fronts_are order_is checked known joined ordered has.written has.valid has.cap has.not_open

@@ -1,5 +1,5 @@
 //! Merging the logs of a plant.
-ghost use Rattle.std.specs.Prelude.{◌≡◌, ◌≢◌, ◌≤◌, ◌<◌, ℕ, List, length, Err, IsTrue, IfOk, IfSome};
+ghost use Rattle.std.specs.Prelude.{◌≡◌, ◌≢◌, ◌≤◌, ◌<◌, ℕ, List, All, length, Err, IsTrue, IfOk, IfSome};
 ghost use Rattle.stn_edge.specs.Count.{Rose};
 ghost use Rattle.stn_edge.specs.Files.{OthersStay, file_of};
 ghost use Rattle.stn_model.specs.Sound.{Sound};
@@ -9,6 +9,7 @@ ghost use Rattle.valid_log.specs.declared.verdict.LogVerdict.TheVariants.{Yes};
 ghost use Rattle.valid_log.specs.Claims.{SaysOfPlans};
 ghost use Rattle.valid_log.specs.PlantLogs.{IsAnyChecked};
 ghost use Rattle.log_merging.specs.MergedLogs.{AreMergeable, IsMergedLog, IsMergingIn, NamesRefused, LeavesMerge, MergeSays};
+ghost use Rattle.log_merging.specs.laws.Written.{HasWrittenChecked};
 ghost use Rattle.store_frames.specs.Frames.{OnlyReads, ReadsAndWritesOne};
 ghost use Rattle.merge_checks.specs.laws.Checked.{AreCheckedTo, AreKnownTo};
 
@@ -116,13 +117,44 @@ fn merge_logs<F: Shelf>(
         claims,
     } = logs;
     let best = joined(claims);
-    let greatest = cap_of(&best);
     let work = Work {
         first: &first,
         newest,
         fronts: fronts.as_slice(),
         order: order.as_slice(),
     };
+    write_checked(alloc, plant, files, stem, out, work, best, settled)
+}
+
+// Writes the merged log and has it checked; its claim. It owns nothing of the logs, so that its ways out let go of the claim alone.
+fn write_checked<F: Shelf>(
+    alloc: Global,
+    plant: &Plant,
+    files: &mut F,
+    stem: &str,
+    out: &str,
+    work: Work,
+    best: Claim,
+    settled: bool,
+) -> Result<Option<Claim>, JoinStop>
+    requires sound { Sound plant.now }
+    requires order { All (λ number. number < length work.fronts.now) work.order.now }
+    requires may_read { (number : ℕ) → number < length work.fronts.now
+        → IsTrue (F.may_read files.old (log_name stem.now number)) }
+    requires out_readable { IsTrue (F.may_read files.old out.now) }
+    requires out_writable { IsTrue (F.may_write files.old out.now) }
+    requires apart { (number : ℕ) → number < length work.fronts.now
+        → out.now ≢ log_name stem.now number }
+    ensures checked { IfOk result (λ claim. IfSome claim (HasWrittenChecked plant.now work.entry
+        best settled stem.now out.now (F.files files.old) (F.files files.new))) }
+    ensures says { IfOk result (λ claim. IfSome claim (SaysOfPlans plant.now)) }
+    ensures frame { ReadsAndWritesOne F.Shelf out.now files.old files.new }
+    ensures read_fault { result ≡ Err JoinStop.ReadFault
+        → Rose (F.read_faults files.old) (F.read_faults files.new) }
+    ensures write_fault { result ≡ Err JoinStop.WriteFault
+        → Rose (F.write_faults files.old) (F.write_faults files.new) }
+{
+    let greatest = cap_of(&best);
     let Some(claim) = write_merged(alloc, plant, files, stem, out, work, best)? else {
         return Ok(None);
     };

@@ -1,4 +1,5 @@
 pub mod Frames
+pub mod Parts
 pub mod Readings
 pub mod Skipped
 pub mod Walking

@@ -1,4 +1,5 @@
 -- What only clauses of private functions cite: the language wants the definitions of every clause in specs/.
 pub mod Nodes
+pub mod Parts
 pub mod Seen
 pub mod WalkStops

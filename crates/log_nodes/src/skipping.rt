@@ -1,14 +1,16 @@
 //! Reading a whole proof for its count of boxes.
-ghost use Rattle.std.specs.Prelude.{◌≡◌, ◌≤◌, ◌+◌, Err, IsTrue, IfOk, IfSome};
+ghost use Rattle.std.specs.Prelude.{◌≡◌, ◌≤◌, ◌+◌, ◌++◌, Err, IsTrue, IfOk, IfSome, OnOk};
 ghost use Rattle.stn_edge.specs.Count.{Rose};
 ghost use Rattle.store_frames.specs.Frames.{OnlyReads};
 ghost use Rattle.log_nodes.specs.Reading.{IsReading, ReadsOn};
-ghost use Rattle.log_nodes.specs.laws.Nodes.{HasBelow, HasTree};
+ghost use Rattle.log_nodes.specs.laws.Nodes.{HasBelow};
+ghost use Rattle.log_nodes.specs.laws.Parts.{HasSkipped, boxes_at, parts_of};
 
 use crate::node::Ending;
 use crate::reading::read_node;
 use proof_log::LogReader;
-use std::alloc::Global;
+use proof_tree::Stack;
+use std::alloc::{AllocError, Global};
 use stn_edge::{Shelf, Stop};
 
 /// The sum of two counts, where it is a number of 64 bits.
@@ -22,19 +24,31 @@ pub fn sum_of(one: u64, other: u64) -> Option<u64>
     }
 }
 
-// The count of a split whose parts count so many.
-fn with_both(first: u64, second: u64) -> Option<u64>
-    ensures { IfSome result (λ boxes. boxes ≡ 1 + first + second) }
+// What an end counts without what stands below it: a box, or nothing where it is pending.
+fn boxes_at(end: &Ending) -> u64
+    ensures { result ≡ boxes_at end.now }
 {
-    match sum_of(1, first) {
-        Some(boxes) => sum_of(boxes, second),
-        None => None,
+    match end {
+        Ending::Pending(_) => 0,
+        _ => 1,
+    }
+}
+
+// Puts both parts of an end that splits before what is left to read, where at most so many nodes may stand one below another in each.
+fn put_parts(rooms: &mut Stack<u32>, end: &Ending, room: u32) -> Result<(), AllocError>
+    ensures { OnOk result (rooms.new ≡ parts_of end.now room ++ rooms.old) }
+{
+    match end {
+        Ending::Split(_, _) => {
+            rooms.push(room)?;
+            rooms.push(room)
+        }
+        _ => Ok(()),
     }
 }
 
 /// Reads what stands below an end, where at most so many nodes may stand one below another there, and counts the boxes with the
-/// node of this end; none where something else comes.
-#[cycle(skipping)]
+/// node of this end; none where something else comes. It is a loop, and holds how many nodes may stand in each part that is left.
 pub fn skip_below<F: Shelf>(
     alloc: Global,
     files: &mut F,
@@ -57,47 +71,50 @@ pub fn skip_below<F: Shelf>(
     ensures fault { result ≡ Err Stop.Failed
         → Rose (F.read_faults files.old) (F.read_faults files.new) }
 {
-    match end {
-        Ending::Empty => Ok(Some(1)),
-        Ending::Dual(_) => Ok(Some(1)),
-        Ending::Point => Ok(Some(1)),
-        Ending::Pending(_) => Ok(Some(0)),
-        Ending::Split(_, _) => {
-            let Some(first) = skip_tree(alloc, files, name, reader, most)? else {
-                return Ok(None);
-            };
-            match skip_tree(alloc, files, name, reader, most)? {
-                Some(second) => Ok(with_both(first, second)),
-                None => Ok(None),
-            }
+    let mut rooms = Stack::new(alloc);
+    put_parts(&mut rooms, end, most)?;
+    let mut boxes = boxes_at(end);
+    'parts: while let Some(room) = rooms.take_top() {
+        if room == 0 {
+            return Ok(None);
         }
+        let below = room - 1;
+        let Some(counts) = skip_node(alloc, files, name, reader, &mut rooms, below, boxes)? else {
+            return Ok(None);
+        };
+        boxes = counts;
     }
+    Ok(Some(boxes))
 }
 
-// Reads a proof, in which at most so many nodes may stand one below another, and counts its boxes.
-#[cycle(skipping)]
-fn skip_tree<F: Shelf>(
+// Reads the next node, and puts what stands below it before what is left to read, where at most so many nodes may stand one below
+// another in each part of it; the count of boxes with it.
+fn skip_node<F: Shelf>(
     alloc: Global,
     files: &mut F,
     name: &str,
     reader: &mut LogReader,
-    most: u32,
+    rooms: &mut Stack<u32>,
+    room: u32,
+    boxes: u64,
 ) -> Result<Option<u64>, Stop>
     requires allowed { IsTrue (F.may_read files.old name.now) }
     requires reading { IsReading (F.files files.old) name.now reader.old }
-    ensures tree { IfOk result (λ count. IfSome count (HasTree
-        (λ items. ReadsOn (F.files files.old) name.now reader.old items reader.new))) }
-    ensures reading { IfOk result (λ count. IfSome count (λ _.
+    ensures skipped { IfOk result (λ counts. IfSome counts (HasSkipped
+        (λ items. ReadsOn (F.files files.old) name.now reader.old items reader.new) room boxes
+        rooms.old rooms.new)) }
+    ensures reading { IfOk result (λ counts. IfSome counts (λ _.
         IsReading (F.files files.old) name.now reader.new)) }
     ensures frame { OnlyReads F.Shelf files.old files.new }
     ensures fault { result ≡ Err Stop.Failed
         → Rose (F.read_faults files.old) (F.read_faults files.new) }
 {
-    if most == 0 {
+    let Some(node) = read_node(alloc, files, name, reader)? else {
         return Ok(None);
-    }
-    match read_node(alloc, files, name, reader)? {
-        Some(node) => skip_below(alloc, files, name, reader, &node.end, most - 1),
-        None => Ok(None),
-    }
+    };
+    let Some(counts) = sum_of(boxes, boxes_at(&node.end)) else {
+        return Ok(None);
+    };
+    put_parts(rooms, &node.end, room)?;
+    Ok(Some(counts))
 }

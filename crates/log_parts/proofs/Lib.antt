@@ -24,3 +24,5 @@ pub mod Versions
 pub mod PartsCopied
 pub mod JoinWritten
 pub mod JoinAnswers
+pub mod Frames
+pub mod TreesCopied

@@ -3,6 +3,7 @@ ghost use Rattle.std.specs.Prelude.{◌≡◌, ◌≢◌, ◌≤◌, ℕ, List a
 ghost use Rattle.stn_edge.specs.Count.{Rose};
 ghost use Rattle.stn_edge.specs.Files.{OthersStay};
 ghost use Rattle.row_relax.specs.RowProofs.{RowItem};
+ghost use Rattle.store_frames.specs.Frames.{ReadsAndWritesOne};
 ghost use Rattle.log_parts.specs.laws.Copying.{name_of, HasItems, IsBegun, HasCopied, HasBrokenOff};
 
 use crate::joins::JoinStop;
@@ -69,17 +70,13 @@ pub(crate) fn copy_log<F: Shelf>(
     requires may_read { IsTrue (F.may_read files.old name.now) }
     requires may_write { IsTrue (F.may_write files.old (name_of writer.old)) }
     requires apart { name_of writer.old ≢ name.now }
+    ensures named { name_of writer.new ≡ name_of writer.old }
     ensures copied { IfOk result
         (HasCopied limits head name.now (F.files files.old) writer.old (F.files files.new)
         writer.new) }
-    ensures err { OnErr result (HasBrokenOff limits head name.now (F.files files.old) writer.old
-        (F.files files.new)) }
-    ensures named { name_of writer.new ≡ name_of writer.old }
-    ensures others { OthersStay (name_of writer.old) (F.files files.old) (F.files files.new) }
-    ensures readable { F.may_read files.new ≡ F.may_read files.old }
-    ensures writable { F.may_write files.new ≡ F.may_write files.old }
-    ensures reads { F.read_faults files.old ≤ F.read_faults files.new }
-    ensures writes { F.write_faults files.old ≤ F.write_faults files.new }
+    ensures err { OnErr result
+        (HasBrokenOff limits head name.now (F.files files.old) writer.old (F.files files.new)) }
+    ensures frame { ReadsAndWritesOne F.Shelf (name_of writer.old) files.old files.new }
     ensures read_fault { result ≡ Err JoinStop.ReadFault
         → Rose (F.read_faults files.old) (F.read_faults files.new) }
     ensures write_fault { result ≡ Err JoinStop.WriteFault

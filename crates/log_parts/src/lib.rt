@@ -21,4 +21,6 @@ pub use fronts::{PartCheck, compared, declares_same, head_with, no_head, other_h
 pub use heads::{Declared, LogFront, LogHead};
 pub use joining::{ClaimedPlan, claim_with, joined, plan_of};
 pub use joins::{JoinStop, Joined};
-pub use writing::{begin_log, finish_log, head_text, joined_version, write_joined};
+pub use writing::{
+    JoinedFront, PartLogs, begin_log, finish_log, head_text, joined_version, write_joined,
+};

@@ -6,6 +6,7 @@ ghost use Rattle.stn_model.specs.Sound.{Sound};
 ghost use Rattle.row_relax.specs.RowProofs.{RowItem};
 ghost use Rattle.proof_log.specs.LogNames.{log_name};
 ghost use Rattle.sum_slots.specs.declared.sum.Sum.{Sum};
+ghost use Rattle.store_frames.specs.Frames.{ReadsAndWritesOne, WritesOne};
 ghost use Rattle.log_parts.specs.Heads.{front_text, joined_version};
 ghost use Rattle.log_parts.specs.laws.Copying.{
   IsFit,
@@ -53,15 +54,26 @@ pub(crate) struct BadPart {
     pub defect: Defect,
 }
 
-// The logs of the parts that are joined.
+/// The logs of the parts that are joined.
 #[derive(Clone, Copy)]
-pub(crate) struct PartLogs<'a> {
+pub struct PartLogs<'a> {
+    /// How many levels the plant is parted to: 2^levels parts.
     pub levels: u32,
+    /// The limits of what stands behind the heads.
     pub limits: Limits,
-
-    // How many bytes the head of each log has; none where it has no head.
+    /// How many bytes the head of each log has; none where it has no head.
     pub heads: &'a [u64],
+    /// The stem of their names.
     pub stem: &'a str,
+}
+
+/// What stands at the front of the joined log.
+#[derive(Clone, Copy)]
+pub struct JoinedFront<'a> {
+    /// The version of its text.
+    pub version: u8,
+    /// What its head declares.
+    pub declared: &'a Declared,
 }
 
 // The split of a slot at 0, which was made before any search.
@@ -88,18 +100,14 @@ fn open_split<F: Shelf>(
     files: &mut F,
 ) -> Result<(), JoinStop>
     requires { IsTrue (F.may_write files.old (name_of writer.old)) }
+    ensures named { name_of writer.new ≡ name_of writer.old }
     ensures ok { OnOk result ((front : Items ℕ) (items : Items RowItem)
         → HasItems front writer.old (F.files files.old) items
         → HasItems front writer.new (F.files files.new) (items ++ split_items slot)) }
     ensures err { OnErr result ((front : Items ℕ) (items : Items RowItem)
         → HasItems front writer.old (F.files files.old) items
         → IsBegun front (name_of writer.old) (F.files files.new) (items ++ split_items slot)) }
-    ensures named { name_of writer.new ≡ name_of writer.old }
-    ensures others { OthersStay (name_of writer.old) (F.files files.old) (F.files files.new) }
-    ensures readable { F.may_read files.new ≡ F.may_read files.old }
-    ensures writable { F.may_write files.new ≡ F.may_write files.old }
-    ensures reads { F.read_faults files.new ≡ F.read_faults files.old }
-    ensures writes { F.write_faults files.old ≤ F.write_faults files.new }
+    ensures frame { WritesOne F.Shelf (name_of writer.old) files.old files.new }
     ensures write_fault { result ≡ Err JoinStop.WriteFault
         → Rose (F.write_faults files.old) (F.write_faults files.new) }
     ensures no_fault { result ≢ Err JoinStop.ReadFault }
@@ -122,6 +130,7 @@ fn copy_part<F: Shelf>(
     requires may_read { IsTrue (F.may_read files.old (log_name logs.stem.now part)) }
     requires may_write { IsTrue (F.may_write files.old (name_of writer.old)) }
     requires apart { name_of writer.old ≢ log_name logs.stem.now part }
+    ensures named { name_of writer.new ≡ name_of writer.old }
     ensures joined { IfOk result
         (HasJoined logs.entry.limits (2 ^ logs.entry.levels) logs.entry.stem.now
         logs.entry.heads.now
@@ -131,12 +140,7 @@ fn copy_part<F: Shelf>(
         logs.entry.stem.now
         logs.entry.heads.now
         (items_over logs.entry.levels 0 part) (F.files files.old) writer.old (F.files files.new)) }
-    ensures named { name_of writer.new ≡ name_of writer.old }
-    ensures others { OthersStay (name_of writer.old) (F.files files.old) (F.files files.new) }
-    ensures readable { F.may_read files.new ≡ F.may_read files.old }
-    ensures writable { F.may_write files.new ≡ F.may_write files.old }
-    ensures reads { F.read_faults files.old ≤ F.read_faults files.new }
-    ensures writes { F.write_faults files.old ≤ F.write_faults files.new }
+    ensures frame { ReadsAndWritesOne F.Shelf (name_of writer.old) files.old files.new }
     ensures read_fault { result ≡ Err JoinStop.ReadFault
         → Rose (F.read_faults files.old) (F.read_faults files.new) }
     ensures write_fault { result ≡ Err JoinStop.WriteFault
@@ -182,6 +186,7 @@ fn write_tree<F: Shelf>(
         → IsTrue (F.may_read files.old (log_name logs.stem.now p)) }
     requires may_write { IsTrue (F.may_write files.old (name_of writer.old)) }
     requires apart { (p : ℕ) → p < 2 ^ logs.levels → name_of writer.old ≢ log_name logs.stem.now p }
+    ensures named { name_of writer.new ≡ name_of writer.old }
     ensures joined { IfOk result
         (HasJoined logs.entry.limits (2 ^ logs.entry.levels) logs.entry.stem.now
         logs.entry.heads.now
@@ -192,12 +197,7 @@ fn write_tree<F: Shelf>(
         logs.entry.heads.now
         (items_over slot (logs.entry.levels - slot) part) (F.files files.old) writer.old
         (F.files files.new)) }
-    ensures named { name_of writer.new ≡ name_of writer.old }
-    ensures others { OthersStay (name_of writer.old) (F.files files.old) (F.files files.new) }
-    ensures readable { F.may_read files.new ≡ F.may_read files.old }
-    ensures writable { F.may_write files.new ≡ F.may_write files.old }
-    ensures reads { F.read_faults files.old ≤ F.read_faults files.new }
-    ensures writes { F.write_faults files.old ≤ F.write_faults files.new }
+    ensures frame { ReadsAndWritesOne F.Shelf (name_of writer.old) files.old files.new }
     ensures read_fault { result ≡ Err JoinStop.ReadFault
         → Rose (F.read_faults files.old) (F.read_faults files.new) }
     ensures write_fault { result ≡ Err JoinStop.WriteFault
@@ -320,13 +320,11 @@ pub fn finish_log<F: Shelf>(writer: LogWriter, files: &mut F, claim: &Claim) -> 
     }
 }
 
-// Writes the joined log of this version with what it declares and the larger claim, where no log of a part shows a defect now, and
-// answers the claim.
+// Writes the joined log with this front and the larger claim, where no log of a part shows a defect now, and answers the claim.
 fn write_log<F: Shelf>(
     alloc: Global,
     logs: PartLogs,
-    version: u8,
-    declared: &Declared,
+    front: JoinedFront,
     larger: &Claim,
     files: &mut F,
     name: &str,
@@ -340,23 +338,21 @@ fn write_log<F: Shelf>(
     requires apart { (part : ℕ) → part < 2 ^ logs.levels
         → name.now ≢ log_name logs.stem.now part }
     ensures written { IfOk result (HasWritten logs.entry.limits logs.entry.levels
-        logs.entry.stem.now logs.entry.heads.now name.now (front_text version declared.now)
+        logs.entry.stem.now logs.entry.heads.now name.now
+        (front_text front.entry.version front.entry.declared.now)
         larger.now claim (F.files files.old) (F.files files.new)) }
     ensures claim { IfOk result (IsClaim claim) }
     ensures err { OnErr result (HasLeft logs.entry.limits logs.entry.levels
-        logs.entry.stem.now logs.entry.heads.now name.now (front_text version declared.now)
+        logs.entry.stem.now logs.entry.heads.now name.now
+        (front_text front.entry.version front.entry.declared.now)
         larger.now (F.files files.old) (F.files files.new)) }
-    ensures others { OthersStay name.now (F.files files.old) (F.files files.new) }
-    ensures readable { F.may_read files.new ≡ F.may_read files.old }
-    ensures writable { F.may_write files.new ≡ F.may_write files.old }
-    ensures reads { F.read_faults files.old ≤ F.read_faults files.new }
-    ensures writes { F.write_faults files.old ≤ F.write_faults files.new }
+    ensures frame { ReadsAndWritesOne F.Shelf name.now files.old files.new }
     ensures read_fault { result ≡ Err JoinStop.ReadFault
         → Rose (F.read_faults files.old) (F.read_faults files.new) }
     ensures write_fault { result ≡ Err JoinStop.WriteFault
         → Rose (F.write_faults files.old) (F.write_faults files.new) }
 {
-    let mut writer = begin_log(alloc, version, declared, files, name)?;
+    let mut writer = begin_log(alloc, front.version, front.declared, files, name)?;
     match write_tree(alloc, logs, 0, 0, &mut writer, files)? {
         Some(BadPart { part, defect }) => Ok(Joined::No { part, defect }),
         None => {
@@ -366,38 +362,40 @@ fn write_log<F: Shelf>(
     }
 }
 
-/// Writes the joined log of this version, which declares this, with this claim, where no log of a part shows a defect now. What stands
-/// behind the heads keeps these limits. It takes memory for the text of the head and for the plant's program.
+/// Writes the joined log of these logs with this front and this claim, where no log of a part shows a defect now. It takes memory for
+/// the text of the head and for the plant's program.
 pub fn write_joined<F: Shelf>(
     alloc: Global,
     plant: &Plant,
-    levels: u32,
-    version: u8,
-    declared: &Declared,
-    limits: Limits,
-    heads: &[u64],
+    logs: PartLogs,
+    front: JoinedFront,
     files: &mut F,
-    stem: &str,
     name: &str,
     claim: Claim,
 ) -> Result<Joined, JoinStop>
     requires sound { Sound plant.now }
-    requires most { levels ≤ 8 }
-    requires declared { MayDeclare plant.now (head_limits plant.now levels) version declared.now }
-    requires limits { limits ≡ part_limits plant.now levels declared.now }
-    requires heads { length heads.now ≡ 2 ^ levels }
-    requires may_read { (part : ℕ) → part < 2 ^ levels
-        → IsTrue (F.may_read files.old (log_name stem.now part)) }
+    requires most { logs.levels ≤ 8 }
+    requires declared { MayDeclare plant.now (head_limits plant.now logs.levels) front.version
+        front.declared.now }
+    requires limits { logs.limits ≡ part_limits plant.now logs.levels front.declared.now }
+    requires heads { length logs.heads.now ≡ 2 ^ logs.levels }
+    requires may_read { (part : ℕ) → part < 2 ^ logs.levels
+        → IsTrue (F.may_read files.old (log_name logs.stem.now part)) }
     requires may_write { IsTrue (F.may_write files.old name.now) }
-    requires apart { (part : ℕ) → part < 2 ^ levels → name.now ≢ log_name stem.now part }
-    ensures written { IfOk result (λ said. IsFit plant.now declared.now.sums claim
-        → HasWritten (part_limits plant.now levels declared.now) levels stem.now heads.now
-        name.now (front_text version declared.now) (larger_claim declared.now.sums claim) claim
+    requires apart { (part : ℕ) → part < 2 ^ logs.levels
+        → name.now ≢ log_name logs.stem.now part }
+    ensures written { IfOk result (λ said. IsFit plant.now front.entry.declared.now.sums claim
+        → HasWritten (part_limits plant.now logs.entry.levels front.entry.declared.now)
+        logs.entry.levels logs.entry.stem.now logs.entry.heads.now name.now
+        (front_text front.entry.version front.entry.declared.now)
+        (larger_claim front.entry.declared.now.sums claim) claim
         (F.files files.old) (F.files files.new) said) }
     ensures claim { IfOk result (IsClaim claim) }
-    ensures err { OnErr result (HasLeft (part_limits plant.now levels declared.now) levels
-        stem.now heads.now name.now (front_text version declared.now)
-        (larger_claim declared.now.sums claim) (F.files files.old) (F.files files.new)) }
+    ensures err { OnErr result
+        (HasLeft (part_limits plant.now logs.entry.levels front.entry.declared.now)
+        logs.entry.levels logs.entry.stem.now logs.entry.heads.now name.now
+        (front_text front.entry.version front.entry.declared.now)
+        (larger_claim front.entry.declared.now.sums claim) (F.files files.old) (F.files files.new)) }
     ensures others { OthersStay name.now (F.files files.old) (F.files files.new) }
     ensures readable { F.may_read files.new ≡ F.may_read files.old }
     ensures writable { F.may_write files.new ≡ F.may_write files.old }
@@ -409,16 +407,8 @@ pub fn write_joined<F: Shelf>(
         → Rose (F.write_faults files.old) (F.write_faults files.new) }
 {
     let program = program_of(alloc, plant)?;
-    match larger_claim(alloc, &program, declared.sums.as_slice(), &claim)? {
-        Some(larger) => {
-            let logs = PartLogs {
-                levels,
-                limits,
-                heads,
-                stem,
-            };
-            write_log(alloc, logs, version, declared, &larger, files, name, claim)
-        }
+    match larger_claim(alloc, &program, front.declared.sums.as_slice(), &claim)? {
+        Some(larger) => write_log(alloc, logs, front, &larger, files, name, claim),
         None => Ok(no_sums()),
     }
 }

@@ -1,2 +1,2 @@
 -- What only clauses of private functions cite: the language wants the definitions of every clause in specs/.
-pub mod Sought
+pub mod SearchRequest

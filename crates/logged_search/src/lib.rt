@@ -6,10 +6,11 @@
 
 mod item_dropper;
 mod logging;
+mod request;
 mod searching;
-mod sought;
 mod split_rules;
 
 pub use logging::{Logged, search_logged};
+pub use request::SearchRequest;
 pub use searching::{search_built, search_only};
 pub use split_rules::SplitRules;

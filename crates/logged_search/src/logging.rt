@@ -9,11 +9,10 @@ ghost use Rattle.branch_tree.specs.Searched.{IsWorth};
 ghost use Rattle.plan_told.specs.Ended.{IsEmptyRoot, IsEnding};
 ghost use Rattle.proof_log.specs.Writer.{KeepsOthers, writing};
 ghost use Rattle.logged_search.specs.Logging.{HasFewSplits, IsLogged, LeavesBegun, stored};
-ghost use Rattle.logged_search.specs.laws.Sought.{BeganFor, CanSearch, IsExactFor, IsLoggedFor, IsSearchFor};
+ghost use Rattle.logged_search.specs.laws.SearchRequest.{BeganFor, CanSearch, IsExactFor, IsLoggedFor, IsSearchFor};
 
+use crate::request::SearchRequest;
 use crate::searching::{empty_end, put_search};
-use crate::sought::Sought;
-use crate::split_rules::SplitRules;
 use box_advice::Advisers;
 use branch_tree::{Ended, is_searchable};
 use log_lines::{Line, put_line};
@@ -34,26 +33,24 @@ pub struct Logged {
 /// has no value is one empty box. The log begins with a head.
 pub fn search_logged<A: Advisers, F: Shelf>(
     alloc: Global,
-    rows: &Rows,
-    rules: SplitRules,
-    budget: u32,
-    start: &[u8],
+    sought: &SearchRequest,
     head: &[u8],
     files: &mut F,
     name: &str,
 ) -> Result<Logged, Stop>
-    requires images { HaveImages rows.now }
-    requires splits { HasFewSplits rules.most rows.now.program }
-    requires budget { (1 ≤ budget) × (budget ≤ 100000) }
+    requires images { HaveImages sought.now.rows.now }
+    requires splits { HasFewSplits sought.now.rules.most sought.now.rows.now.program }
+    requires budget { (1 ≤ sought.now.budget) × (sought.now.budget ≤ 100000) }
     requires allowed { IsTrue (F.may_write files.old name.now) }
     ensures logged { IfOk result (λ logged. IsLogged
-        (IsEnding rules.most rows.now rules.floors rules.given budget logged.ended)
-        rules.most rows.now rules.floors head.now name.now
+        (IsEnding sought.now.rules.most sought.now.rows.now sought.now.rules.floors
+        sought.now.rules.given sought.now.budget logged.ended)
+        sought.now.rules.most sought.now.rows.now sought.now.rules.floors head.now name.now
         (writing F.files F.read_faults F.may_read F.may_write logged.writer files.new)) }
-    ensures begun { IfOk result
-        (λ logged. IsWorth (choices_of rows.now) start.now logged.ended.best) }
-    ensures err { OnErr result (LeavesBegun rules.most rows.now rules.floors head.now name.now
-        (F.files files.old) (F.files files.new)) }
+    ensures begun { IfOk result (λ logged. IsWorth (choices_of sought.now.rows.now)
+        sought.now.start.now logged.ended.best) }
+    ensures err { OnErr result (LeavesBegun sought.now.rules.most sought.now.rows.now
+        sought.now.rules.floors head.now name.now (F.files files.old) (F.files files.new)) }
     ensures kept { KeepsOthers
         (stored F.files F.read_faults F.may_read F.may_write name.now files.old)
         (stored F.files F.read_faults F.may_read F.may_write name.now files.new) }
@@ -61,20 +58,15 @@ pub fn search_logged<A: Advisers, F: Shelf>(
     ensures failed { result ≡ Err Stop.Failed
         → Rose (F.write_faults files.old) (F.write_faults files.new) }
 {
-    if !is_searchable(&rows.program, rules.most) {
-        return log_empty(alloc, rows, rules.most, head, files, name);
+    let most = sought.rules.most;
+    if !is_searchable(&sought.rows.program, most) {
+        return log_empty(alloc, sought.rows, most, head, files, name);
     }
-    let sought = Sought {
-        rows,
-        rules,
-        budget,
-        start,
-    };
-    let (logged, exact) = log_open::<A, _>(alloc, &sought, true, head, files, name)?;
+    let (logged, exact) = log_open::<A, _>(alloc, sought, true, head, files, name)?;
     if exact {
         return Ok(logged);
     }
-    let (again, _) = log_open::<A, _>(alloc, &sought, false, head, files, name)?;
+    let (again, _) = log_open::<A, _>(alloc, sought, false, head, files, name)?;
     Ok(again)
 }
 
@@ -113,7 +105,7 @@ fn log_empty<F: Shelf>(
 // exact, as it is without a guide.
 fn log_open<A: Advisers, F: Shelf>(
     alloc: Global,
-    sought: &Sought,
+    sought: &SearchRequest,
     guided: bool,
     head: &[u8],
     files: &mut F,

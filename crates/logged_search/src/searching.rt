@@ -6,10 +6,10 @@ ghost use Rattle.row_relax.specs.Choices.{HaveImages, choices_of};
 ghost use Rattle.branch_tree.specs.Searched.{AreSearchable, IsBrokenOff, IsWorth, ended_of};
 ghost use Rattle.plan_told.specs.Ended.{IsSearchOf, IsSearched, empty_end};
 ghost use Rattle.logged_search.specs.Logging.{HasFewSplits};
-ghost use Rattle.logged_search.specs.laws.Sought.{BeganFor, CanSearch, IsEndingFor, IsExactFor, WasSearched};
+ghost use Rattle.logged_search.specs.laws.SearchRequest.{BeganFor, CanSearch, IsEndingFor, IsExactFor, WasSearched};
 
 use crate::item_dropper::ItemDropper;
-use crate::sought::Sought;
+use crate::request::SearchRequest;
 use crate::split_rules::SplitRules;
 use advised_search::{build_advised, build_hinted, search_advised, search_hinted};
 use box_advice::Advisers;
@@ -46,7 +46,7 @@ pub fn search_only<A: Advisers>(
     ensures begun { IfOk result (λ ended. IsWorth (choices_of rows.now) start.now ended.best) }
 {
     if is_searchable(&rows.program, rules.most) {
-        let sought = Sought {
+        let sought = SearchRequest {
             rows,
             rules,
             budget,
@@ -59,7 +59,7 @@ pub fn search_only<A: Advisers>(
 }
 
 // Searches a root in which each slot has a value, and drops the proof.
-fn search_open<A: Advisers>(alloc: Global, sought: &Sought) -> Result<Ended, AllocError>
+fn search_open<A: Advisers>(alloc: Global, sought: &SearchRequest) -> Result<Ended, AllocError>
     requires { CanSearch sought.now }
     ensures ended { IfOk result (IsEndingFor sought.now) }
     ensures begun { IfOk result (λ ended. BeganFor sought.now ended.best) }
@@ -81,7 +81,7 @@ fn search_open<A: Advisers>(alloc: Global, sought: &Sought) -> Result<Ended, All
 // also says whether the count is exact, as it is without a guide.
 pub(crate) fn put_search<A: Advisers, O, T: NodeTaker<Rows, O>>(
     alloc: Global,
-    sought: &Sought,
+    sought: &SearchRequest,
     guided: bool,
     taker: &mut T,
     out: &mut O,
@@ -99,7 +99,7 @@ pub(crate) fn put_search<A: Advisers, O, T: NodeTaker<Rows, O>>(
     ensures later { T.faults out.old ≤ T.faults out.new }
     ensures failed { IsErrOf result TakeStop.Failed → Rose (T.faults out.old) (T.faults out.new) }
 {
-    let Sought {
+    let SearchRequest {
         rows,
         rules,
         budget,

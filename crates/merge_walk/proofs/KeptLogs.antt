@@ -1,5 +1,5 @@
 -- Logs that are read while another file is written: they stay the same logs, and their reading goes on.
-use Rattle.std.proofs.Common.{◌≡◌, ◌≢◌, ◌∙◌, inl, inr, ℕ, ◌+◌, ◌<◌, Bool, List, ◌++◌, length, get_or, Option, None, Some, sym, ap, subst, arith}
+use Rattle.std.proofs.Common.{◌≡◌, ◌≢◌, ◌∙◌, inl, inr, ℕ, ◌<◌, Bool, List, ◌++◌, length, get_or, Option, None, Some, refl, sym, ap, subst, arith}
 use Rattle.std.specs.Prelude.{IsTrue, slice_get, slice_index_or}
 use Rattle.std.proofs.lemmas.Option.{get_or_from_slice_get, slice_get-get_or, slice_get_within}
 use Rattle.stn_edge.specs.Files.{FileMap, OthersStay}
@@ -12,6 +12,7 @@ use Rattle.log_nodes.specs.Reading.{IsReading, ReadsOn}
 use Rattle.log_parts.proofs.Copies.{read_stays, same_file}
 use Rattle.merged_nodes.specs.declared.sources.Source.{Source}
 use Rattle.merged_nodes.specs.laws.Looked.{AreApart, AreReading, Away, Down, Ends, HasPassed, HasStood, HavePassed, HaveStood, MayReadAll, Other, Stand}
+use Rattle.merge_walk.specs.laws.Opened.{AreSame}
 use Rattle.merge_walk.specs.laws.Walked.{HasReadParts, HasReadTree, HaveReadParts, HaveReadTrees}
 
 -- ---- reading goes on
@@ -70,10 +71,16 @@ parts-back out stem old new depth before after firsts seconds others apart have 
 
 -- ---- the same logs
 
--- the same logs at the same places, whatever was read of them
-pub record AreSame (before after : List Source) : Type 0 where
-  pub as_many : length after ≡ length before
-  pub each : (place : ℕ) (d : Source) → place < length before → (get_or after place d).number ≡ (get_or before place d).number
+-- logs of which nothing was read
+pub same-none : (sources : List Source) → AreSame sources sources
+same-none sources = record { as_many = refl; each = λ place d lt. refl }
+
+-- one reading after another
+pub same-then : (before middle after : List Source) → AreSame before middle → AreSame middle after → AreSame before after
+same-then before middle after first second = record {
+  as_many = second.as_many ∙ first.as_many;
+  each = λ place d lt. second.each place d (omega (arith, lt, first.as_many)) ∙ first.each place d lt;
+}
 
 -- so where each has its number still
 same-from : (before after : List Source) → length after ≡ length before

@@ -1,3 +1,6 @@
 pub mod KeptLogs
 pub mod MergedNodes
+pub mod OpenSplits
+pub mod Remaining
 pub mod SplitNodes
+pub mod Steps

@@ -1,7 +1,6 @@
 -- Nodes that split, and answers about them.
 use Rattle.std.proofs.Common.{◌≡◌, ◌∙◌, List, [], ◌∷◌, Option, None, Some, refl, ap, subst, sym}
 use Rattle.std.specs.Prelude.{IfOk, IfSome, Result, Ok, Err, option_and_then}
-use Rattle.proof_tree.specs.declared.capped.Capped.{Capped}
 use Rattle.proof_tree.specs.declared.item.Item.TheVariants as item
 use Rattle.proof_tree.specs.Tree.{after_cuts}
 use Rattle.proof_tree.specs.Views.{View}
@@ -48,9 +47,9 @@ answer-always (Ok (Some x)) P is = is
 answer-always (Ok None) P is = tt
 answer-always (Err e) P is = tt
 
--- the answer is the cap of the end that was put
-pub end-answer : {E : Type 0} (result : Result (Option Capped) E) (own : Capped) (Q : Type 0) (P : Capped → Type 0) → IfOk result (λ cap. (cap ≡ Some own) × Q) → (Q → P own) → IfOk result (λ cap. IfSome cap P)
-end-answer (Ok cap) own Q P is then_ = subst (λ (o : Option Capped). IfSome o P) (sym is.0) (then_ is.1)
+-- the answer is the end that was put
+pub end-answer : {X E : Type 0} (result : Result (Option X) E) (own : X) (Q : Type 0) (P : X → Type 0) → IfOk result (λ o. (o ≡ Some own) × Q) → (Q → P own) → IfOk result (λ o. IfSome o P)
+end-answer {X} (Ok o) own Q P is then_ = subst (λ (other : Option X). IfSome other P) (sym is.0) (then_ is.1)
 end-answer (Err e) own Q P is then_ = tt
 
 -- what is not there is none

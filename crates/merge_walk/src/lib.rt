@@ -4,5 +4,7 @@
 #![tactic(auto)]
 
 mod merging;
+mod nodes;
+mod way;
 
 pub use merging::merge_node;

@@ -1,27 +1,28 @@
 //! The merged proof, written node by node.
-ghost use Rattle.std.specs.Prelude.{◌≡◌, List as Items, map, Err, IsTrue, IfOk, IfSome};
+ghost use Rattle.std.specs.Prelude.{◌≡◌, ◌+◌, ◌<◌, length, map, take, Some, Err, IsTrue, IfOk, IfSome};
 ghost use Rattle.stn_edge.specs.Count.{Rose};
+ghost use Rattle.proof_tree.specs.Cap.{floor_cap, greater};
+ghost use Rattle.proof_tree.specs.Views.{MovesTo, present};
+ghost use Rattle.row_relax.specs.Steps.{row_steps};
 ghost use Rattle.row_relax.specs.View.{Fits, view_of};
 ghost use Rattle.log_nodes.specs.laws.Seen.{seen};
 ghost use Rattle.log_parts.specs.laws.Copying.{name_of};
 ghost use Rattle.store_frames.specs.Frames.{ReadsAndWritesOne};
-ghost use Rattle.merged_nodes.specs.declared.sources.Source.{Source};
-ghost use Rattle.merge_walk.specs.laws.Closing.{KeepsClosing};
-ghost use Rattle.merged_nodes.specs.laws.Looked.{AreApart, AreReading, HasLooked, MayReadAll};
-ghost use Rattle.merge_walk.specs.laws.Walked.{CanMerge, HasMerged, HasMergedParts, HasMergedSplit};
+ghost use Rattle.merged_nodes.specs.laws.Looked.{AreApart, AreReading, MayReadAll};
+ghost use Rattle.merge_walk.specs.laws.Walked.{HasMerged};
 
-use log_nodes::{MOST_NODES, Node, cut_down, item_of};
-use log_parts::{JoinStop, put_item};
-use merged_nodes::{Capping, Looked, Merging, Source, closes, look, pass_below, put_end, put_node};
+use crate::nodes::merge_here;
+use crate::way::{OpenSplit, Way, Written};
+use log_parts::JoinStop;
+use merged_nodes::{Merging, Source};
 use proof_log::LogWriter;
-use proof_tree::{Capped, Item, Relaxation, floor_cap, greater_cap};
+use proof_tree::{Capped, Relaxation, Stack, floor_cap, greater_cap};
 use row_kit::Area;
-use row_relax::RowPick;
+use row_relax::Rows;
 use stn_edge::Shelf;
 
 /// Reads the proofs of all logs that came down below so many splits over an area, and writes the proof that is merged of them; its cap.
-/// The area is afterwards as before; none where something else comes.
-#[cycle(merging)]
+/// The area is afterwards as before; none where something else comes. It is a loop, and holds the splits that are open.
 pub fn merge_node<F: Shelf>(
     merging: Merging,
     files: &mut F,
@@ -49,169 +50,77 @@ pub fn merge_node<F: Shelf>(
     ensures write_fault { result ≡ Err JoinStop.WriteFault
         → Rose (F.write_faults files.old) (F.write_faults files.new) }
 {
-    if depth >= MOST_NODES {
-        return Ok(None);
-    }
-    let Some(looked) = look(merging.alloc, merging, files, sources, area, depth)? else {
-        return Ok(None);
-    };
-    merge_looked(merging, files, sources, looked, writer, area, depth)
-}
-
-// Writes what is merged of the nodes that were looked at: an end that closes its box; else a split; else an end.
-#[cycle(merging)]
-fn merge_looked<F: Shelf>(
-    merging: Merging,
-    files: &mut F,
-    sources: &mut Vec<Source>,
-    looked: Looked,
-    writer: &mut LogWriter,
-    area: &mut Area,
-    depth: u32,
-) -> Result<Option<Capped>, JoinStop>
-    requires can { CanMerge F.Shelf merging files.old sources.old.items writer.old area.old depth }
-    ensures merged { (before : Items Source) → HasLooked merging.entry.rows.now
-        (seen area.old) (F.files files.old) merging.entry.stem.now depth before
-        sources.old.items looked → IfOk result (λ cap. IfSome cap
-        (HasMerged merging.entry.rows.now merging.entry.best (seen area.old)
-        (F.files files.old) (F.files files.new) merging.entry.stem.now depth before
-        sources.new.items writer.old writer.new)) }
-    ensures reading { IfOk result (λ cap. IfSome cap (λ _.
-        AreReading (F.files files.new) merging.entry.stem.now sources.new.items)) }
-    ensures as_before { IfOk result (λ cap. IfSome cap (λ _.
-        map view_of area.new ≡ map view_of area.old)) }
-    ensures named { name_of writer.new ≡ name_of writer.old }
-    ensures frame { ReadsAndWritesOne F.Shelf (name_of writer.old) files.old files.new }
-    ensures read_fault { result ≡ Err JoinStop.ReadFault
-        → Rose (F.read_faults files.old) (F.read_faults files.new) }
-    ensures write_fault { result ≡ Err JoinStop.WriteFault
-        → Rose (F.write_faults files.old) (F.write_faults files.new) }
-{
-    let Looked { end, split } = looked;
-    let Some(split) = split else {
-        return match end {
-            Some(end) => put_end(writer, files, end),
-            None => Ok(None),
-        };
-    };
-    match closing(&merging.best, end) {
-        Some(end) => {
-            if pass_below(merging.alloc, merging, files, sources, &split.end, depth)? {
-                put_end(writer, files, end)
-            } else {
-                Ok(None)
+    let mut splits = Stack::new(merging.alloc);
+    let mut way = Way::Down(depth);
+    'steps: loop {
+        match way {
+            Way::Down(below) => {
+                match merge_here(merging, files, sources, writer, area, below)? {
+                    None => return Ok(None),
+                    Some(Written::End(cap)) => way = Way::Up(cap),
+                    Some(Written::Split(split)) => {
+                        splits.push(split)?;
+                        way = Way::Down(below + 1);
+                    }
+                }
+            }
+            Way::Up(cap) => {
+                let Some(split) = splits.take_top() else {
+                    return Ok(Some(cap));
+                };
+                match split.left {
+                    Some(left) => way = Way::Up(close(merging.rows, area, &split, left, cap)),
+                    None => {
+                        if !turn(merging.rows, area, &split) {
+                            return Ok(None);
+                        }
+                        splits.push(turned(split, cap))?;
+                        way = Way::Down(split.depth + 1);
+                    }
+                }
             }
         }
-        None => merge_split(merging, files, sources, split, writer, area, depth),
     }
 }
 
-// The end, where there is one and its cap closes its box.
-fn closing(best: &Option<i128>, end: Option<Capping>) -> Option<Capping>
-    ensures { KeepsClosing best.now end result }
+// Narrows an area below the left part of a split to its right part; false where it has none.
+fn turn(rows: &Rows, area: &mut Area, split: &OpenSplit) -> bool
+    requires fits { Fits rows.now.program (seen area.old) }
+    requires within { split.now.mark < length (map view_of area.old) }
+    ensures fits { Fits rows.now.program (seen area.new) }
+    ensures moves { MovesTo ((row_steps rows.now.program).right
+        (present (take (split.now.mark + 1) (map view_of area.old))) split.now.pick)
+        (take (split.now.mark + 1) (map view_of area.old)) (map view_of area.new) result }
 {
-    match end {
-        Some(end) => {
-            if closes(best, end.cap) {
-                Some(end)
-            } else {
-                None
-            }
-        }
-        None => None,
+    rows.back(area, split.mark);
+    rows.right(area, &split.pick)
+}
+
+// The split, once its left part is written, which has this cap.
+fn turned(split: OpenSplit, left: Capped) -> OpenSplit
+    ensures { result ≡ record {
+      depth = split.depth;
+      before = split.before;
+      mark = split.mark;
+      pick = split.pick;
+      floor = split.floor;
+      left = Some left;
+    } }
+{
+    OpenSplit {
+        left: Some(left),
+        ..split
     }
 }
 
-// Writes a node that splits its box, and what is merged of the parts of the logs that went down there.
-#[cycle(merging)]
-fn merge_split<F: Shelf>(
-    merging: Merging,
-    files: &mut F,
-    sources: &mut Vec<Source>,
-    node: Node,
-    writer: &mut LogWriter,
-    area: &mut Area,
-    depth: u32,
-) -> Result<Option<Capped>, JoinStop>
-    requires can { CanMerge F.Shelf merging files.old sources.old.items writer.old area.old depth }
-    ensures merged { IfOk result (λ cap. IfSome cap (HasMergedSplit merging.entry.rows.now
-        merging.entry.best (seen area.old) node (F.files files.old) (F.files files.new)
-        merging.entry.stem.now depth sources.old.items sources.new.items writer.old
-        writer.new)) }
-    ensures reading { IfOk result (λ cap. IfSome cap (λ _.
-        AreReading (F.files files.new) merging.entry.stem.now sources.new.items)) }
-    ensures as_before { IfOk result (λ cap. IfSome cap (λ _.
-        map view_of area.new ≡ map view_of area.old)) }
-    ensures named { name_of writer.new ≡ name_of writer.old }
-    ensures frame { ReadsAndWritesOne F.Shelf (name_of writer.old) files.old files.new }
-    ensures read_fault { result ≡ Err JoinStop.ReadFault
-        → Rose (F.read_faults files.old) (F.read_faults files.new) }
-    ensures write_fault { result ≡ Err JoinStop.WriteFault
-        → Rose (F.write_faults files.old) (F.write_faults files.new) }
+// Makes an area what it was at the node of a split whose parts are written, which have these caps; its own.
+fn close(rows: &Rows, area: &mut Area, split: &OpenSplit, left: Capped, right: Capped) -> Capped
+    requires fits { Fits rows.now.program (seen area.old) }
+    requires within { split.now.before < length (map view_of area.old) }
+    ensures fits { Fits rows.now.program (seen area.new) }
+    ensures views { map view_of area.new ≡ take (split.now.before + 1) (map view_of area.old) }
+    ensures cap { result ≡ greater (floor_cap split.now.floor) (greater left right) }
 {
-    let Node { cuts, found, end } = node;
-    let mark = merging.rows.mark(area);
-    if !cut_down(merging.rows, area, cuts.as_slice()) {
-        return Ok(None);
-    }
-    put_node(writer, files, cuts.as_slice(), found)?;
-    let item = item_of(end);
-    put_item(writer, files, &item)?;
-    let Item::Split(pick, cert) = &item else {
-        return Ok(None);
-    };
-    let floor = merging.rows.trim(area, pick, cert);
-    match merge_parts(merging, files, sources, pick, writer, area, depth)? {
-        Some(cap) => {
-            merging.rows.back(area, mark);
-            Ok(Some(greater_cap(floor_cap(floor), cap)))
-        }
-        None => Ok(None),
-    }
-}
-
-// Writes what is merged of both parts of a split of an area, of the logs that went down there; the greater of their caps.
-#[cycle(merging)]
-fn merge_parts<F: Shelf>(
-    merging: Merging,
-    files: &mut F,
-    sources: &mut Vec<Source>,
-    pick: &RowPick,
-    writer: &mut LogWriter,
-    area: &mut Area,
-    depth: u32,
-) -> Result<Option<Capped>, JoinStop>
-    requires can { CanMerge F.Shelf merging files.old sources.old.items writer.old area.old depth }
-    ensures merged { IfOk result (λ cap. IfSome cap (HasMergedParts merging.entry.rows.now
-        merging.entry.best (seen area.old) pick.now (F.files files.old) (F.files files.new)
-        merging.entry.stem.now depth sources.old.items sources.new.items writer.old
-        writer.new)) }
-    ensures reading { IfOk result (λ cap. IfSome cap (λ _.
-        AreReading (F.files files.new) merging.entry.stem.now sources.new.items)) }
-    ensures as_before { IfOk result (λ cap. IfSome cap (λ _.
-        map view_of area.new ≡ map view_of area.old)) }
-    ensures named { name_of writer.new ≡ name_of writer.old }
-    ensures frame { ReadsAndWritesOne F.Shelf (name_of writer.old) files.old files.new }
-    ensures read_fault { result ≡ Err JoinStop.ReadFault
-        → Rose (F.read_faults files.old) (F.read_faults files.new) }
-    ensures write_fault { result ≡ Err JoinStop.WriteFault
-        → Rose (F.write_faults files.old) (F.write_faults files.new) }
-{
-    let mark = merging.rows.mark(area);
-    if !merging.rows.left(area, pick) {
-        return Ok(None);
-    }
-    let below = depth + 1;
-    let Some(first) = merge_node(merging, files, sources, writer, area, below)? else {
-        return Ok(None);
-    };
-    merging.rows.back(area, mark);
-    if !merging.rows.right(area, pick) {
-        return Ok(None);
-    }
-    let Some(second) = merge_node(merging, files, sources, writer, area, below)? else {
-        return Ok(None);
-    };
-    merging.rows.back(area, mark);
-    Ok(Some(greater_cap(first, second)))
+    rows.back(area, split.before);
+    greater_cap(floor_cap(split.floor), greater_cap(left, right))
 }

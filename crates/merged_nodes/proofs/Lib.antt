@@ -1,4 +1,3 @@
-pub mod Frames
 pub mod LookedAt
 pub mod NodeCaps
 pub mod Others

@@ -94,7 +94,8 @@ fn pass<A: Advisers>(
     requires budget { (1 ≤ budget) × (budget ≤ 100000) }
     requires each { length marks.old.items ≡ length plant.now.deliveries }
     requires none { NoPlan (left_plant plant.now marks.old.items) }
-    ensures { IfOk result (λ changed. IsPassed plant.now budget marks.old.items marks.new.items changed (length marks.old.items)) }
+    ensures { IfOk result (λ changed. IsPassed plant.now budget marks.old.items
+        marks.new.items changed (length marks.old.items)) }
 {
     let mut changed = false;
     for place in 0..marks.len() {

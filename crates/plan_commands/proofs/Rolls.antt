@@ -1,8 +1,7 @@
 -- Starts that are kept of a plan, and those that are moved.
-use Rattle.std.proofs.Common.{◌≡◌, ℕ, ◌+◌, ◌-◌, ◌<◌, ◌≤◌, ◌^◌, Bool, true, false, not, cond, List, [], ◌∷◌, length, map, nat_lt, Option, Some, None, refl, inl, inr, sym, ap, subst, ◌∙◌, arith}
-use Rattle.std.specs.Prelude.{All, ⊤, ◌↔◌, filter}
-use Rattle.std.proofs.lemmas.Bool.{cases_Bool, ltb-false, ltb-true}
-use Rattle.std.proofs.lemmas.Option.{none-some}
+use Rattle.std.proofs.Common.{◌≡◌, ℕ, ◌<◌, ◌≤◌, ◌^◌, Bool, true, false, not, cond, List, [], ◌∷◌, length, Option, Some, refl, inl, inr, ap, subst, ◌∙◌, arith}
+use Rattle.std.specs.Prelude.{All, ⊤, filter, MatchOption}
+use Rattle.std.proofs.lemmas.Bool.{cases_Bool, ltb-true}
 use Rattle.std.proofs.lemmas.List.{length-map}
 use Rattle.std.proofs.lemmas.List.Elements.{All-nil, All-cons, All-head, All-tail, All-map}
 use Rattle.std.proofs.lemmas.List.Filters.{length-filter_both}
@@ -85,10 +84,6 @@ rest_file rolled plan starts text sound few can same lines again =
     let says : SaysAgain rolled plan = subst (λ (ss : List Start). SaysAgain rolled ss) same again in
     record { lines = whole; reads = ap (plan_of_text rolled) whole ∙ says sound few can }
 
--- where there is a plant unless the receipts are more, they are few
-pub few-receipts : {X : Type 0} (made : Option X) (x : X) (count : ℕ) → made ≡ Some x → (made ≡ None) ↔ (900 < count) → count ≤ 900
-few-receipts made x count is refused =
-    elim (cases_Bool (nat_lt 900 count)) [
-      | inl many ↦ absurd (none-some x (sym (refused.1 (ltb-true 900 count many)) ∙ is))
-      | inr few ↦ ltb-false 900 count few
-    ]
+-- what holds exactly where there is a thing holds where there is one
+pub holds-there : {X : Type 0} (Holds : Type 0) (made : Option X) (x : X) → made ≡ Some x → MatchOption made (¬ Holds) (λ _. Holds) → Holds
+holds-there Holds made x is holds = rw is at holds

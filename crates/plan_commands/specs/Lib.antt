@@ -1,2 +1,3 @@
 pub mod Upgrading
 pub mod Rolling
+pub mod laws

@@ -1,5 +1,5 @@
 -- The answer of `roll`, and when it is right.
-use Rattle.std.specs.Prelude.{◌≡◌, ◌⊎◌, ◌≤◌, ◌<◌, ℕ, ℤ, Bool, true, false, Ok, List, [], ◌++◌, length, codes}
+use Rattle.std.specs.Prelude.{◌≡◌, ◌⊎◌, ◌≤◌, ◌<◌, ℕ, ◌+◌, ℤ, Bool, true, false, Ok, List, [], ◌++◌, codes}
 use Rattle.stn_model.specs.declared.plant.Plant.{Plant}
 use Rattle.stn_model.specs.declared.start.Start.{Start}
 use Rattle.stn_model.specs.declared.violation.Violation.{Violation}
@@ -7,9 +7,9 @@ use Rattle.plan_text.specs.PlanLines.{plan_lines}
 use Rattle.plan_text.specs.PlanText.{plan_of_text}
 use Rattle.plant_make.specs.Meaning.{Puts}
 use Rattle.rolled_plant.specs.Kept.{kept, moved, IsMendable}
-use Rattle.rolled_plant.specs.Receipts.{receipts_from, AreFew}
 use Rattle.rolled_plant.specs.RolledPlant.{rolled_plant}
-use Rattle.rolled_plant.specs.RollLaw.{earned_before, GoesOnWith, RestGoesOn}
+use Rattle.rolled_plant.specs.FitsFile.{FitsFile}
+use Rattle.rolled_plant.specs.RollLaw.{date_at, earned_before, GoesOnWith, RestGoesOn}
 use Rattle.rolled_plant.specs.Unmended.{BreaksBefore}
 use Rattle.answer_texts.specs.Lines.{amount_line}
 use Rattle.answer_texts.specs.Simulation.{violation_text}
@@ -28,11 +28,12 @@ pub record IsBrokenBefore (plant : Plant) (before : List Start) (period status :
   pub status_is : status ≡ 1
   pub text_is : text ≡ violation_text plant violation
 
--- the starts before the period go on, but what comes from then on are more receipts than a plant may have, and it is refused
-pub record HasManyReceipts (plant : Plant) (before : List Start) (period status : ℕ) (text : List ℕ) : Type 0 where
+-- the starts before the period go on, but no plant file can say the rolled plant, which has too many receipts or a calendar that begins
+-- past the year 9999, and it is refused
+pub record FitsNoFile (plant : Plant) (before : List Start) (period status : ℕ) (text : List ℕ) : Type 0 where
   pub within : period < plant.periods
   pub goes_on : IsMendable plant before period
-  pub many : 900 < length (receipts_from plant before period)
+  pub unfit : ¬ FitsFile plant before period
   pub status_is : status ≡ 5
   pub text_is : text ≡ codes "refused roll\n"
 
@@ -54,21 +55,23 @@ IsRolledText true plant before after period text = IsRestFile (rolled_plant plan
 
 -- The plant is rolled to the period. The starts before it go on, so that a list of starts is a feasible plan of the rolled plant exactly
 -- where the plant carries it out behind them, and there it earns what it earns on the rolled plant and what was earned before; and so
--- it is with the plan that was given and what is left of it.
+-- it is with the plan that was given and what is left of it. The clock of the rolled plant shows at each time what that of the plant
+-- shows so many periods later.
 pub record IsRolled (rest : Bool) (plant : Plant) (starts before after : List Start) (period status : ℕ) (text : List ℕ) : Type 0 where
   pub within : period < plant.periods
   pub goes_on : IsMendable plant before period
-  pub few : AreFew plant before period
+  pub fits : FitsFile plant before period
   pub law : (list : List Start) → GoesOnWith plant before period list
   pub plan : RestGoesOn plant starts period
+  pub dates : (time : ℕ) → date_at (rolled_plant plant before period) time ≡ date_at plant (period + time)
   pub status_is : status ≡ 0
   pub text_is : IsRolledText rest plant before after period text
 
--- the answer over the starts before the period and those from it on: that they break something, that the receipts are too many, or the
--- plant, or the rest of the plan
+-- the answer over the starts before the period and those from it on: that they break something, that no plant file can say the rolled
+-- plant, or the plant, or the rest of the plan
 abbrev pub RolledOn : Bool → Plant → List Start → List Start → List Start → ℕ → ℕ → List ℕ → Type 0
 RolledOn rest plant starts before after period status text =
-    IsBrokenBefore plant before period status text ⊎ (HasManyReceipts plant before period status text ⊎ IsRolled rest plant starts before after period status text)
+    IsBrokenBefore plant before period status text ⊎ (FitsNoFile plant before period status text ⊎ IsRolled rest plant starts before after period status text)
 
 -- the answer of `roll` on a plant and a plan: that the period is not before the horizon, or that over the starts of the plan before it
 -- and from it on

@@ -1,6 +1,7 @@
 //! The commands on a plant and a plan that are given: `simulate`, `report`, `picture`, `table`, `violations`, `roll` and `upgrade`.
 #![tactic(auto)]
 
+mod parted;
 mod rolling;
 mod simulation;
 mod upgrading;

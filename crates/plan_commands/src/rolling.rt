@@ -1,34 +1,37 @@
 //! `roll PLANT PLAN PERIOD`: the plant from a period on, where the starts of the plan before it have been carried out, and the rest of
 //! the plan.
-ghost use Rattle.std.specs.Prelude.{◌≡◌, ◌≢◌, ◌⊎◌, ◌≤◌, ◌<◌, ◌^◌, [], ℕ, List, Ok, Err, All, IsTrue, IfOk, length, codes};
+ghost use Rattle.std.specs.Prelude.{◌≡◌, ◌≢◌, ◌⊎◌, ◌≤◌, [], ℕ, List, Ok, Err, All, IsTrue, IfOk, length, codes};
 ghost use Rattle.stn_model.specs.Sound.{Sound};
 ghost use Rattle.plan_text.specs.PlanLines.{IsNamed};
 ghost use Rattle.plan_text.specs.ReadsBack.{IsWritable};
 ghost use Rattle.plan_text.specs.Published.{most_lines};
 ghost use Rattle.plant_text.specs.Reading.{reading};
-ghost use Rattle.rolled_plant.specs.Kept.{kept, moved, IsMendable};
+ghost use Rattle.rolled_plant.specs.Kept.{moved};
 ghost use Rattle.rolled_plant.specs.RolledPlant.{rolled_plant};
 ghost use Rattle.rolled_plant.specs.RollLaw.{earned_before};
 ghost use Rattle.command_replies.specs.Frames.{HadReadFault};
 ghost use Rattle.store_frames.specs.Frames.{OnlyReads};
 ghost use Rattle.command_replies.specs.Answers.{IsPlanAnswer};
 ghost use Rattle.command_replies.specs.Sources.{IfReplied, IsReadOf};
-ghost use Rattle.plan_commands.specs.Rolling.{
-  HasManyReceipts,
-  IsRolled,
-  IsRolledFile,
-  IsRestFile,
-  IsRolledText,
-  RolledOn,
-  Rolled,
+ghost use Rattle.plan_commands.specs.Rolling.{IsRolledFile, IsRestFile, Rolled};
+ghost use Rattle.plan_commands.specs.laws.Parted.{
+  IsParted,
+  IsPartMendable,
+  IsRolledOn,
+  FitsNoPlantFile,
+  IsRolledPart,
+  IsPartText,
 };
 
+use crate::parted::PartedPlan;
 use answer_texts::{amount_line, bounded, broken};
 use command_replies::{Reply, Stopped, plan_in, plant_in};
 use command_words::Period;
 use plan_text::put_plan;
 use plant_make::put_plant;
-use rolled_plant::{earned_before, first_unmended, kept, moved, rest_law, roll_law, rolled_plant};
+use rolled_plant::{
+    date_law, earned_before, first_unmended, kept, moved, rest_law, roll_law, rolled_plant,
+};
 use std::alloc::{AllocError, Global};
 use stn_edge::Shelf;
 use stn_model::{Plant, Start};
@@ -95,58 +98,40 @@ fn roll_plan(
         return refused(alloc, "refused period\n");
     }
     let before = kept(alloc, plan, period)?;
-    roll_kept(alloc, plant, plan, before.as_slice(), period, rest)
+    let parted = PartedPlan {
+        plant,
+        plan,
+        before: before.as_slice(),
+        period,
+        rest,
+    };
+    roll_parted(alloc, &parted)
 }
 
-// The answer over the starts before the period.
-fn roll_kept(
-    alloc: Global,
-    plant: &Plant,
-    plan: &[Start],
-    before: &[Start],
-    period: u32,
-    rest: bool,
-) -> Result<Reply, AllocError>
-    requires sound { Sound plant.now }
-    requires few { length plan.now ≤ most_lines plant.now }
-    requires writable { All (IsWritable plant.now) plan.now }
-    requires within { period < plant.now.periods }
-    requires before { before.now ≡ kept plan.now period }
-    ensures { IfOk result (λ reply. RolledOn rest plant.now plan.now before.now
-        (moved plan.now period) period reply.status reply.text.items) }
+// The answer over the parts of a plan.
+fn roll_parted(alloc: Global, parted: &PartedPlan) -> Result<Reply, AllocError>
+    requires { IsParted parted.now }
+    ensures { IfOk result (λ reply. IsRolledOn parted.now reply.status reply.text.items) }
 {
-    match first_unmended(alloc, plant, before, period)? {
-        Some(violation) => broken(alloc, plant, &violation),
-        None => carried_on(alloc, plant, plan, before, period, rest),
+    match first_unmended(alloc, parted.plant, parted.before, parted.period)? {
+        Some(violation) => broken(alloc, parted.plant, &violation),
+        None => carried_on(alloc, parted),
     }
 }
 
 // The answer where the starts before the period go on.
-fn carried_on(
-    alloc: Global,
-    plant: &Plant,
-    plan: &[Start],
-    before: &[Start],
-    period: u32,
-    rest: bool,
-) -> Result<Reply, AllocError>
-    requires sound { Sound plant.now }
-    requires few { length plan.now ≤ most_lines plant.now }
-    requires writable { All (IsWritable plant.now) plan.now }
-    requires within { period < plant.now.periods }
-    requires before { before.now ≡ kept plan.now period }
-    requires short { length before.now < 2 ^ 32 }
-    requires goes_on { IsMendable plant.now before.now period }
-    ensures { IfOk result (λ reply.
-        HasManyReceipts plant.now before.now period reply.status reply.text.items
-        ⊎ IsRolled rest plant.now plan.now before.now (moved plan.now period) period
-        reply.status reply.text.items) }
+fn carried_on(alloc: Global, parted: &PartedPlan) -> Result<Reply, AllocError>
+    requires parted { IsParted parted.now }
+    requires goes_on { IsPartMendable parted.now }
+    ensures { IfOk result (λ reply. FitsNoPlantFile parted.now reply.status reply.text.items
+        ⊎ IsRolledPart parted.now reply.status reply.text.items) }
 {
-    match rolled_plant(alloc, plant, before, period)? {
+    match rolled_plant(alloc, parted.plant, parted.before, parted.period)? {
         Some(rolled) => {
             roll_law();
             rest_law();
-            let text = rolled_text(alloc, plant, plan, before, &rolled, period, rest)?;
+            date_law();
+            let text = rolled_text(alloc, parted, &rolled)?;
             Ok(Reply { status: 0, text })
         }
         None => refused(alloc, "refused roll\n"),
@@ -154,48 +139,38 @@ fn carried_on(
 }
 
 // The rolled plant behind what was earned before, or the rest of the plan.
-fn rolled_text(
-    alloc: Global,
-    plant: &Plant,
-    plan: &[Start],
-    before: &[Start],
-    rolled: &Plant,
-    period: u32,
-    rest: bool,
-) -> Result<Vec<u8>, AllocError>
-    requires sound { Sound plant.now }
-    requires few { length plan.now ≤ most_lines plant.now }
-    requires writable { All (IsWritable plant.now) plan.now }
-    requires short { length before.now < 2 ^ 32 }
-    requires goes_on { IsMendable plant.now before.now period }
-    requires made { rolled.now ≡ rolled_plant plant.now before.now period }
+fn rolled_text(alloc: Global, parted: &PartedPlan, rolled: &Plant) -> Result<Vec<u8>, AllocError>
+    requires parted { IsParted parted.now }
+    requires goes_on { IsPartMendable parted.now }
+    requires made { rolled.now
+        ≡ rolled_plant parted.now.plant.now parted.now.before.now parted.now.period }
     requires rolled_sound { Sound rolled.now }
-    ensures { IfOk result (λ text. IsRolledText rest plant.now before.now
-        (moved plan.now period) period text.items) }
+    ensures { IfOk result (λ text. IsPartText parted.now text.items) }
 {
-    if rest {
-        rest_text(alloc, plan, rolled, period)
+    if parted.rest {
+        rest_text(alloc, parted.plan, rolled, parted.period)
     } else {
-        plant_text(alloc, plant, before, rolled, period)
+        plant_text(alloc, parted, rolled)
     }
 }
 
 // The rolled plant as a plant file, behind the line on what was earned before.
-fn plant_text(
-    alloc: Global,
-    plant: &Plant,
-    before: &[Start],
-    rolled: &Plant,
-    period: u32,
-) -> Result<Vec<u8>, AllocError>
-    requires sound { Sound plant.now }
-    requires short { length before.now < 2 ^ 32 }
-    requires goes_on { IsMendable plant.now before.now period }
-    requires made { rolled.now ≡ rolled_plant plant.now before.now period }
+fn plant_text(alloc: Global, parted: &PartedPlan, rolled: &Plant) -> Result<Vec<u8>, AllocError>
+    requires parted { IsParted parted.now }
+    requires goes_on { IsPartMendable parted.now }
+    requires made { rolled.now
+        ≡ rolled_plant parted.now.plant.now parted.now.before.now parted.now.period }
     requires rolled_sound { Sound rolled.now }
-    ensures { IfOk result (λ text.
-        IsRolledFile (earned_before plant.now before.now period) rolled.now text.items) }
+    ensures { IfOk result (λ text. IsRolledFile
+        (earned_before parted.now.plant.now parted.now.before.now parted.now.period) rolled.now text.items) }
 {
+    let PartedPlan {
+        plant,
+        plan: _,
+        before,
+        period,
+        rest: _,
+    } = *parted;
     let earned = earned_before(alloc, plant, before, period, rolled)?;
     bounded(&earned);
     let mut text = amount_line(alloc, "# rolled ", &earned)?;

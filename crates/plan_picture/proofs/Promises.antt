@@ -9,11 +9,12 @@ use Rattle.stn_model.specs.Sound.{Sound}
 use Rattle.stn_model.specs.Stock.{stock}
 use Rattle.stn_model.specs.Load.{load}
 use Rattle.stn_model.proofs.Fitting.{duration_pos}
-use Rattle.plan_picture.specs.Scale.{band_count, band_height, band_top, time_of, periods_in, period_width, x_at}
+use Rattle.plan_picture.specs.Scale.{band_count, days_top, band_top, time_of, periods_in, period_width, x_at}
 use Rattle.plan_picture.specs.Chart.{part_head, grid}
 use Rattle.plan_picture.specs.Bars.{span, first_place, last_place, unit_rows, outage_boxes, cleanings, whole_bar, bar, bars}
 use Rattle.plan_picture.specs.Held.{held_bars}
 use Rattle.plan_picture.specs.Graphs.{touched_count, stocks, loads}
+use Rattle.plan_picture.specs.Days.{days}
 use Rattle.plan_picture.specs.Picture.{head, band_begin, gantt, units, band_text, bands, whole_page, picture_end, picture_with, picture_text}
 use Rattle.plan_picture.specs.Laws.{stands_at, runs_in, StandsIn, is_shown, bars_of, BarsAreBatches, BarsTellBatches, StepsAreStocks, StepsAreLoads}
 use Rattle.plan_picture.proofs.Places.{framed_when_timed}
@@ -55,7 +56,7 @@ in_units : (plant : Plant) (plan : List Start) (states band : ℕ) → StandsIn 
 unfolding units
 in_units plant plan states band =
     let all = bars plant plan band in
-    let lines = grid plant band (band_height plant states) in
+    let lines = grid plant band (days_top plant states) in
     let chart = gantt plant plan band in
     stands_behind all (part_head plant band 0 (codes "units")) (unit_rows plant band ++ (lines ++ chart))
     (stands_behind all (unit_rows plant band) (lines ++ chart) (stands_behind all lines chart (in_gantt plant plan band)))
@@ -66,7 +67,7 @@ unfolding band_text
 in_band plant plan states band =
     let all = bars plant plan band in
     let rows = units plant plan states band in
-    let graphs = stocks plant plan states band ++ (loads plant plan states band ++ codes "</g>\n") in
+    let graphs = stocks plant plan states band ++ (loads plant plan states band ++ (days plant states band ++ codes "</g>\n")) in
     stands_behind all (band_begin (band_top plant states band)) (rows ++ graphs) (stands_before all rows graphs (in_units plant plan states band))
 
 -- they stand in the picture

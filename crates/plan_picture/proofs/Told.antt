@@ -1,9 +1,10 @@
 -- What the text of a bar tells of its batch.
-use Rattle.std.proofs.Common.{◌≡◌, ℕ, ◌<◌, ◌≤◌, ◌-◌, ◌*◌, ◌/◌, ◌%◌, ◌^◌, max, true, false, List, [], ◌∷◌, ◌++◌, length, drop, ap, ap₂, sym, subst, ◌∙◌, refl, decimal, codes, inl, inr, arith, div-le_self, not, ◌==◌}
+use Rattle.std.proofs.Common.{◌≡◌, ℕ, suc, ◌<◌, ◌≤◌, ◌-◌, ◌*◌, ◌/◌, ◌%◌, ◌^◌, max, Bool, true, false, cond, nat_lt, List, [], ◌∷◌, ◌++◌, length, drop, ap, ap₂, sym, subst, ◌∙◌, refl, decimal, codes, inl, inr, arith, div-le_self, not, ◌==◌, append_assoc, append-nil}
+use Rattle.std.specs.Char.{is_ascii_hexdigit}
 use Rattle.std.specs.Int.{IsInRange}
-use Rattle.std.specs.List.{AllByRecursion}
+use Rattle.std.specs.List.{AllByRecursion, list_all}
 use Rattle.std.proofs.Math.Nat.{mul-le-mul, div-add-mod, mod-lt}
-use Rattle.std.proofs.lemmas.Bool.{and_parts, cases_lt}
+use Rattle.std.proofs.lemmas.Bool.{and_parts, cases_lt, eqb-true}
 use Rattle.std.proofs.lemmas.Fmt.{decimal_injective}
 use Rattle.std.proofs.lemmas.List.{get_or_past}
 use Rattle.std.proofs.lemmas.List.Elements.{All-get_or, All-weaker, recursion_from_All}
@@ -12,25 +13,43 @@ use Rattle.stn_model.specs.declared.plant.Task.{Task}
 use Rattle.stn_model.specs.declared.start.Start.{Start}
 use Rattle.stn_model.specs.Plant.{task_at, no_task, end_of, duration_of}
 use Rattle.stn_model.specs.Sums.{greatest_by}
-use Rattle.stn_model.specs.Sound.{Sound, SoundTask, SoundOutput, is_name, is_name_byte}
+use Rattle.stn_model.specs.Sound.{Sound, SoundTask, SoundOutput}
+use Rattle.stn_model.specs.Labels.{is_colour, SoundColour}
 use Rattle.plan_picture.specs.declared.marks.Frame.{Frame}
+use Rattle.plan_picture.specs.Captions.{task_caption}
 use Rattle.plan_picture.specs.Marks.{escaped, title, frame_at}
 use Rattle.plan_picture.specs.Scale.{period_width, x_at}
-use Rattle.plan_picture.specs.Bars.{span, color_begin, edge_class, size_words, when_words, bar_title, bar_frame, whole_bar, first_place}
+use Rattle.plan_picture.specs.Bars.{span, class_begin, own_colour, colour_begin, edge_class, size_words, when_words, bar_title, bar_frame, whole_bar, first_place}
 use Rattle.plan_picture.specs.Laws.{IsSmall, AreAlike}
-use Rattle.plan_picture.proofs.Reading.{Lacks, cut_at, number_lacks, read_number, read_number_in, cut_in, passed_lacks, lacks_both, plain_text}
+use Rattle.plan_picture.proofs.Reading.{Lacks, number_lacks, read_number, read_number_in, cut_in, passed_lacks, lacks_both, count_of, count_behind, cut_counted, escaped_lacks, escaped_told}
 
--- a name has none but its bytes
-name_lacks : (c : ℕ) → is_name_byte c ≡ false → (name : List ℕ) → is_name name ≡ true → Lacks c name
-name_lacks c fails [] h = tt
-name_lacks c fails (b ∷ bs) h = passed_lacks is_name_byte c fails (b ∷ bs) (and_parts _ _ (and_parts _ _ h).0).1
+-- a colour has no '>'
+colour_lacks : (colour : List ℕ) → SoundColour colour → Lacks 62 colour
+unfolding is_colour
+colour_lacks colour (inl none) = subst (Lacks 62) (sym none) tt
+colour_lacks [] (inr good) = tt
+colour_lacks (b ∷ bs) (inr good) =
+    let parts = and_parts _ _ good in
+    let first : b ≡ 35 = eqb-true b 35 (and_parts _ _ parts.0).0 in
+    (λ same. omega (arith, first, same), passed_lacks is_ascii_hexdigit 62 refl bs parts.1)
 
--- nor has the name of the task of any number
-task_lacks : (plant : Plant) → Sound plant → (c task : ℕ) → is_name_byte c ≡ false → Lacks c (task_at plant task).name
-task_lacks plant sound c task fails = elim (cases_lt task (length plant.tasks)) [
-  | inl less ↦ name_lacks c fails (task_at plant task).name (All-get_or (SoundTask plant) plant.tasks task no_task less sound.tasks).name
-  | inr past ↦ subst (λ (t : Task). Lacks c t.name) (sym (get_or_past plant.tasks task no_task past)) tt
-]
+-- nor has what stands for the colour of the task of any number
+style_lacks : (some : Bool) (colour : List ℕ) → Lacks 62 colour → Lacks 62 (cond some (codes " style=\"fill:" ++ (colour ++ codes "\"")) [])
+style_lacks false colour h = tt
+style_lacks true colour h =
+    let plain : (text : List ℕ) → list_all (λ c. not (c == 62)) text ≡ true → Lacks 62 text = λ text all. passed_lacks (λ c. not (c == 62)) 62 refl text all in
+    lacks_both 62 (codes " style=\"fill:") (colour ++ codes "\"") (plain (codes " style=\"fill:") refl)
+    (lacks_both 62 colour (codes "\"") h (plain (codes "\"") refl))
+
+own_lacks : (colour : List ℕ) → Lacks 62 colour → Lacks 62 (own_colour colour)
+unfolding own_colour
+own_lacks colour h = style_lacks (nat_lt 0 (length colour)) colour h
+
+task_colour_lacks : (plant : Plant) → Sound plant → (task : ℕ) → Lacks 62 (own_colour (task_at plant task).colour)
+task_colour_lacks plant sound task = own_lacks (task_at plant task).colour (elim (cases_lt task (length plant.tasks)) [
+  | inl less ↦ colour_lacks (task_at plant task).colour (All-get_or (SoundTask plant) plant.tasks task no_task less sound.tasks).colour
+  | inr past ↦ subst (λ (t : Task). Lacks 62 t.colour) (sym (get_or_past plant.tasks task no_task past)) tt
+])
 
 -- the quantum of the task of any number is small
 quantum_small : (plant : Plant) → Sound plant → (task : ℕ) → (task_at plant task).quantum ≤ 1000000
@@ -66,69 +85,59 @@ end_small plant sound start small =
     ] in
     omega (arith, longest, small.0)
 
+-- five blanks stand in a title behind the one that follows what its task is called
+blanks : (plant : Plant) → Sound plant → (start : Start) → IsSmall start → count_of 32 (size_words plant start ++ when_words plant start) ≡ 5
+unfolding size_words when_words
+blanks plant sound start small =
+    let quanta = decimal start.quanta in
+    let mass = decimal (start.quanta * (task_at plant start.task).quantum) in
+    let begin = decimal start.period in
+    let end = decimal (end_of plant start) in
+    let when = codes ", " ++ (begin ++ (codes " to " ++ end)) in
+    let number : (n : ℕ) → n < 2 ^ 64 → Lacks 32 (decimal n) = λ n h. number_lacks 32 n h (λ within. omega (arith, within.0)) in
+    let one : count_of 32 (end ++ []) ≡ 0 = count_behind 32 end [] (number (end_of plant start) (end_small plant sound start small)) in
+    let two : count_of 32 (begin ++ (codes " to " ++ end)) ≡ count_of 32 (codes " to " ++ end) = count_behind 32 begin (codes " to " ++ end) (number start.period (omega (arith, small.0))) in
+    let three : count_of 32 (mass ++ when) ≡ count_of 32 when = count_behind 32 mass when (number (start.quanta * (task_at plant start.task).quantum) (mass_small plant sound start small)) in
+    let four : count_of 32 (quanta ++ (codes " = " ++ (mass ++ when))) ≡ count_of 32 (codes " = " ++ (mass ++ when)) =
+    count_behind 32 quanta (codes " = " ++ (mass ++ when)) (number start.quanta (omega (arith, small.3))) in
+    ap (count_of 32) (append_assoc quanta (codes " = " ++ mass) when) ∙ four ∙ ap (λ n. suc (suc n)) (three ∙ ap (λ n. suc n) (two ∙ ap (λ n. suc (suc n)) (ap (count_of 32) (sym (append-nil end)) ∙ one)))
+
 -- the parts of two titles that are equal
 pub titles_tell : (plant : Plant) → Sound plant → (a b : Start) → IsSmall a → IsSmall b → bar_title plant a ≡ bar_title plant b → AreAlike plant a b
 unfolding bar_title size_words when_words
 titles_tell plant sound a b small_a small_b e =
-    let name_a = (task_at plant a.task).name in
-    let name_b = (task_at plant b.task).name in
     let mass_a = a.quanta * (task_at plant a.task).quantum in
     let mass_b = b.quanta * (task_at plant b.task).quantum in
     let tail_a = codes ", " ++ (decimal a.period ++ (codes " to " ++ decimal (end_of plant a))) in
     let tail_b = codes ", " ++ (decimal b.period ++ (codes " to " ++ decimal (end_of plant b))) in
     let other : (c : ℕ) → c < 48 → IsInRange 48 57 c → ⊥ = λ c below within. omega (arith, below, within.0) in
-    let one = cut_at 32 name_a name_b _ _ (task_lacks plant sound 32 a.task refl) (task_lacks plant sound 32 b.task refl) e in
+    let one = cut_counted 32 (task_caption plant a.task) (task_caption plant b.task) _ _ (blanks plant sound a small_a ∙ sym (blanks plant sound b small_b)) e in
     let two = read_number_in 32 a.quanta b.quanta (codes "= " ++ decimal mass_a) (codes "= " ++ decimal mass_b) tail_a tail_b
     (other 32 (omega arith)) (omega (arith, small_a.3)) (omega (arith, small_b.3)) one.1 in
     let three = read_number 44 mass_a mass_b _ _ (other 44 (omega arith)) (mass_small plant sound a small_a) (mass_small plant sound b small_b) (ap (drop 2) two.1) in
     let four = read_number 32 a.period b.period _ _ (other 32 (omega arith)) (omega (arith, small_a.0)) (omega (arith, small_b.0)) (ap (drop 1) three.1) in
     (one.0, two.0, four.0, decimal_injective _ _ (end_small plant sound a small_a) (end_small plant sound b small_b) (ap (drop 3) four.1))
 
--- a title has none but the bytes of names, numbers and a few marks
-title_lacks : (plant : Plant) → Sound plant → (start : Start) → IsSmall start → (c : ℕ) → is_name_byte c ≡ false → (IsInRange 48 57 c → ⊥) → Lacks c (codes " =,to") → Lacks c (bar_title plant start)
-unfolding bar_title size_words when_words
-title_lacks plant sound start small c name other marks =
-    let space = marks.0 in
-    let number : (n : ℕ) → n < 2 ^ 64 → Lacks c (decimal n) = λ n h. number_lacks c n h other in
-    let quanta = number start.quanta (omega (arith, small.3)) in
-    let mass = number (start.quanta * (task_at plant start.task).quantum) (mass_small plant sound start small) in
-    let begin = number start.period (omega (arith, small.0)) in
-    let end = number (end_of plant start) (end_small plant sound start small) in
-    let size : Lacks c (decimal start.quanta ++ (codes " = " ++ decimal (start.quanta * (task_at plant start.task).quantum))) =
-    lacks_both c (decimal start.quanta) (codes " = " ++ decimal (start.quanta * (task_at plant start.task).quantum)) quanta (space, (marks.1.0, (space, mass))) in
-    let last : Lacks c (decimal start.period ++ (codes " to " ++ decimal (end_of plant start))) =
-    lacks_both c (decimal start.period) (codes " to " ++ decimal (end_of plant start)) begin (space, (marks.1.1.1.0, (marks.1.1.1.1.0, (space, end)))) in
-    lacks_both c (task_at plant start.task).name _ (task_lacks plant sound c start.task name)
-    (space, lacks_both c _ (codes ", " ++ (decimal start.period ++ (codes " to " ++ decimal (end_of plant start)))) size (marks.1.1.0, (space, last)))
-
--- so XML writes it as it is
-title_plain : (plant : Plant) → Sound plant → (start : Start) → IsSmall start → escaped (bar_title plant start) ≡ bar_title plant start
-title_plain plant sound start small =
-    let lacks : (c : ℕ) → is_name_byte c ≡ false → (IsInRange 48 57 c → ⊥) → Lacks c (codes " =,to") → Lacks c (bar_title plant start) = title_lacks plant sound start small in
-    plain_text (bar_title plant start)
-    (lacks 38 refl (λ h. omega (arith, h.0)) (passed_lacks (λ b. not (b == 38)) 38 refl (codes " =,to") refl))
-    (lacks 60 refl (λ h. omega (arith, h.1)) (passed_lacks (λ b. not (b == 60)) 60 refl (codes " =,to") refl))
-    (lacks 62 refl (λ h. omega (arith, h.1)) (passed_lacks (λ b. not (b == 62)) 62 refl (codes " =,to") refl))
-
-title_ends : (plant : Plant) → Sound plant → (start : Start) → IsSmall start → Lacks 60 (bar_title plant start)
-title_ends plant sound start small =
-    title_lacks plant sound start small 60 refl (λ h. omega (arith, h.1)) (passed_lacks (λ b. not (b == 60)) 60 refl (codes " =,to") refl)
-
 -- the colour at the front of a text
-color_told : (a b : ℕ) (us vs : List ℕ) → color_begin a ++ us ≡ color_begin b ++ vs → (a % 8 ≡ b % 8) × (us ≡ vs)
-unfolding color_begin
-color_told a b us vs e =
+colour_told : (plant : Plant) → Sound plant → (a b : ℕ) (us vs : List ℕ) → colour_begin plant a ++ us ≡ colour_begin plant b ++ vs → (a % 8 ≡ b % 8) × (us ≡ vs)
+unfolding colour_begin class_begin
+colour_told plant sound a b us vs e =
+    let own_a = own_colour (task_at plant a).colour in
+    let own_b = own_colour (task_at plant b).colour in
+    let rest_a = own_a ++ codes ">" in
+    let rest_b = own_b ++ codes ">" in
     let most : (n : ℕ) → n % 8 < 2 ^ 64 = λ n. omega (arith, mod-lt n {m = 8} (omega arith)) in
-    let cut = read_number_in 34 (a % 8) (b % 8) (codes ">") (codes ">") us vs (λ h. omega (arith, h.0)) (most a) (most b) (ap (drop 11) e) in
-    (cut.0, ap (drop 1) cut.1)
+    let whole : class_begin a ++ (rest_a ++ us) ≡ class_begin b ++ (rest_b ++ vs) = sym (append_assoc (class_begin a) rest_a us) ∙ e ∙ append_assoc (class_begin b) rest_b vs in
+    let class = read_number_in 34 (a % 8) (b % 8) [] [] (rest_a ++ us) (rest_b ++ vs) (λ h. omega (arith, h.0)) (most a) (most b) (ap (drop 11) whole) in
+    let own = cut_in 62 own_a own_b [] [] us vs (task_colour_lacks plant sound a) (task_colour_lacks plant sound b) class.1 in
+    (class.0, own.1)
 
 -- the title at the front of a text
-title_told : (s t us vs : List ℕ) → escaped s ≡ s → escaped t ≡ t → Lacks 60 s → Lacks 60 t → title s ++ us ≡ title t ++ vs → (s ≡ t) × (us ≡ vs)
+title_told : (s t us vs : List ℕ) → title s ++ us ≡ title t ++ vs → (s ≡ t) × (us ≡ vs)
 unfolding title
-title_told s t us vs plain_s plain_t ends_s ends_t e =
-    let cut = cut_in 60 (escaped s) (escaped t) (codes "/title>\n") (codes "/title>\n") us vs
-    (subst (λ (x : List ℕ). Lacks 60 x) (sym plain_s) ends_s) (subst (λ (x : List ℕ). Lacks 60 x) (sym plain_t) ends_t) (ap (drop 7) e) in
-    (sym plain_s ∙ cut.0 ∙ plain_t, ap (drop 8) cut.1)
+title_told s t us vs e =
+    let cut = cut_in 60 (escaped s) (escaped t) (codes "/title>\n") (codes "/title>\n") us vs (escaped_lacks s) (escaped_lacks t) (ap (drop 7) e) in
+    (escaped_told s t cut.0, ap (drop 8) cut.1)
 
 -- the edge and the height of the frame at the front of a text
 frame_told : (a b : ℕ) (f g : Frame) (us vs : List ℕ) → a < 2 ^ 32 → b < 2 ^ 32 → f.x < 2 ^ 64 → g.x < 2 ^ 64 → f.y < 2 ^ 64 → g.y < 2 ^ 64 → frame_at (edge_class a) f ++ us ≡ frame_at (edge_class b) g ++ vs → (a / 8 ≡ b / 8) × (f.y ≡ g.y)
@@ -160,9 +169,8 @@ same_start a b period unit task quanta =
 pub bars_alone : (plant : Plant) → Sound plant → (a b : Start) → IsSmall a → IsSmall b → (band : ℕ) → whole_bar plant band a ≡ whole_bar plant band b → a ≡ b
 unfolding whole_bar span
 bars_alone plant sound a b small_a small_b band e =
-    let one = color_told a.task b.task _ _ e in
-    let two = title_told (bar_title plant a) (bar_title plant b) _ _ (title_plain plant sound a small_a) (title_plain plant sound b small_b)
-    (title_ends plant sound a small_a) (title_ends plant sound b small_b) one.1 in
+    let one = colour_told plant sound a.task b.task _ _ e in
+    let two = title_told (bar_title plant a) (bar_title plant b) _ _ one.1 in
     let three = frame_told a.task b.task (bar_frame plant band a) (bar_frame plant band b) _ _ small_a.2 small_b.2
     (left_small plant band a small_a) (left_small plant band b small_b) (omega (arith, small_a.1)) (omega (arith, small_b.1)) two.1 in
     let alike = titles_tell plant sound a b small_a small_b two.0 in

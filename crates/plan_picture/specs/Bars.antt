@@ -4,12 +4,13 @@ use Rattle.std.specs.List.{range_with_len}
 use Rattle.stn_model.specs.declared.plant.Plant.{Plant}
 use Rattle.stn_model.specs.declared.plant.Outage.{Outage}
 use Rattle.stn_model.specs.declared.start.Start.{Start}
-use Rattle.stn_model.specs.Plant.{task_at, unit_at, end_of, gap_between, held_until, ready_at}
+use Rattle.stn_model.specs.Plant.{task_at, end_of, gap_between, held_until, ready_at}
 use Rattle.stn_model.specs.Batches.{is_first, is_next}
 use Rattle.plan_picture.specs.declared.marks.Frame.{Frame}
 use Rattle.plan_picture.specs.Marks.{words_at, shortened, title, frame_at, box_at}
 use Rattle.plan_picture.specs.Scale.{periods_in, period_width, letters_in, x_at, unit_top}
 use Rattle.plan_picture.specs.Chart.{row_name}
+use Rattle.plan_picture.specs.Captions.{task_caption, unit_caption}
 
 -- the place of a band at which something begins: at its time, or with the band
 abbrev pub first_place : ℕ → ℕ → ℕ
@@ -32,10 +33,10 @@ span plant band unit from to = record {
   height = 20;
 }
 
--- the row of a unit: its name, and the ground of its idle time
+-- the row of a unit: what it is called, and the ground of its idle time
 unfoldable pub unit_row : Plant → ℕ → ℕ → List ℕ
 unit_row plant band unit =
-    row_name (unit_top unit + 15) (unit_at plant unit).name
+    row_name (unit_top unit + 15) (unit_caption plant unit)
     ++ box_at (codes "row") 128 (unit_top unit + 1) (periods_in plant band * period_width plant) 20
 
 -- the rows of all units
@@ -93,9 +94,17 @@ next_cleanings plant plan band = flat_map (cleaning_after plant plan band) plan
 abbrev pub cleanings : Plant → List Start → ℕ → List ℕ
 cleanings plant plan band = first_cleanings plant plan band ++ next_cleanings plant plan band
 
--- a group in the colour of a task: one of eight
-unfoldable pub color_begin : ℕ → List ℕ
-color_begin task = codes "<g class=\"c" ++ (decimal (task % 8) ++ codes "\">")
+-- where a group of a task's class begins: one of eight
+unfoldable pub class_begin : ℕ → List ℕ
+class_begin task = codes "<g class=\"c" ++ (decimal (task % 8) ++ codes "\"")
+
+-- a colour of a task's own, in the place of its class's; nothing where it has none
+unfoldable pub own_colour : List ℕ → List ℕ
+own_colour colour = if nat_lt 0 (length colour) then codes " style=\"fill:" ++ (colour ++ codes "\"") else []
+
+-- a group in the colour of a task: that of its class, or its own
+unfoldable pub colour_begin : Plant → ℕ → List ℕ
+colour_begin plant task = class_begin task ++ (own_colour (task_at plant task).colour ++ codes ">")
 
 -- the class of a task's edge: one of five
 unfoldable pub edge_class : ℕ → List ℕ
@@ -112,7 +121,7 @@ when_words plant start = codes ", " ++ (decimal start.period ++ (codes " to " ++
 
 -- what a pointer on the bar of a batch shows: its task, its size, and when it runs
 unfoldable pub bar_title : Plant → Start → List ℕ
-bar_title plant start = (task_at plant start.task).name ++ (codes " " ++ (size_words plant start ++ when_words plant start))
+bar_title plant start = task_caption plant start.task ++ (codes " " ++ (size_words plant start ++ when_words plant start))
 
 -- the bar's place: in the row of its unit, from its start to its end, as far as the band shows it
 abbrev pub bar_frame : Plant → ℕ → Start → Frame
@@ -124,11 +133,11 @@ frame_words frame name size =
     words_at (codes "task") (frame.x + 4) (frame.y + 9) (shortened (letters_in frame.width) name)
     ++ words_at (codes "quanta") (frame.x + 4) (frame.y + 18) (shortened (letters_in frame.width) size)
 
--- the bar of a batch that the band shows: its title, its edge, the name of its task, and its size
+-- the bar of a batch that the band shows: its title, its edge, what its task is called, and its size
 unfoldable pub whole_bar : Plant → ℕ → Start → List ℕ
 whole_bar plant band start =
-    color_begin start.task ++ (title (bar_title plant start) ++ (frame_at (edge_class start.task) (bar_frame plant band start)
-    ++ (frame_words (bar_frame plant band start) (task_at plant start.task).name (size_words plant start) ++ codes "</g>\n")))
+    colour_begin plant start.task ++ (title (bar_title plant start) ++ (frame_at (edge_class start.task) (bar_frame plant band start)
+    ++ (frame_words (bar_frame plant band start) (task_caption plant start.task) (size_words plant start) ++ codes "</g>\n")))
 
 -- the bar of a batch, where the band shows something of it
 unfoldable pub bar : Plant → ℕ → Start → List ℕ

@@ -12,6 +12,7 @@ use Rattle.stn_model.specs.Sums.{greatest_by, count_below}
 use Rattle.plan_picture.specs.Marks.{fitted, box_at}
 use Rattle.plan_picture.specs.Scale.{time_of, band_part, period_width, letters_in, x_at, stocks_top, loads_top}
 use Rattle.plan_picture.specs.Chart.{part_head, row_name}
+use Rattle.plan_picture.specs.Captions.{state_caption, utility_caption}
 
 -- what fills a row: the greatest of its levels and limits, and at least 1
 unfoldable pub graph_top : List ℤ → List ℕ → ℕ
@@ -171,10 +172,10 @@ touched_before plant plan state = count_below (is_touched plant plan) state
 abbrev pub touched_count : Plant → List Start → ℕ
 touched_count plant plan = touched_before plant plan (length plant.states)
 
--- the row of a state in a band: its name, its stocks as steps with their limits, and its flags
+-- the row of a state in a band: what it is called, its stocks as steps with their limits, and its flags
 unfoldable pub stock_graph : Plant → List ℤ → ℕ → ℕ → ℕ → List ℕ
 stock_graph plant stocks band state y =
-    row_name (y + 10) (state_at plant state).name ++ (band_steps plant band y stocks (state_at plant state).limits
+    row_name (y + 10) (state_caption plant state) ++ (band_steps plant band y stocks (state_at plant state).limits
     ++ stock_flags plant band state y (length (band_part plant band stocks)))
 
 -- the row of a state that is moved, below those of such states before it; none of another state
@@ -193,10 +194,10 @@ unfoldable pub stocks : Plant → List Start → ℕ → ℕ → List ℕ
 stocks plant plan states band =
     if nat_lt 0 states then part_head plant band (stocks_top plant) (codes "stock") ++ stock_rows plant plan band else []
 
--- the row of a utility in a band: its name, its loads as steps with their limits, and flags of new limits
+-- the row of a utility in a band: what it is called, its loads as steps with their limits, and flags of new limits
 unfoldable pub load_graph : Plant → List ℤ → ℕ → ℕ → ℕ → List ℕ
 load_graph plant loads band utility y =
-    row_name (y + 10) (utility_at plant utility).name ++ (band_steps plant band y loads (utility_at plant utility).limits
+    row_name (y + 10) (utility_caption plant utility) ++ (band_steps plant band y loads (utility_at plant utility).limits
     ++ load_flags plant (band_part plant band (utility_at plant utility).limits) y)
 
 -- the row of a utility, below the rows of so many states

@@ -3,10 +3,11 @@ use Rattle.std.specs.Prelude.{ℕ, if◌then◌else◌, length, List, [], ◌++�
 use Rattle.std.specs.List.{range_with_len}
 use Rattle.stn_model.specs.declared.plant.Plant.{Plant}
 use Rattle.stn_model.specs.declared.plant.Last.{Last}
-use Rattle.stn_model.specs.Plant.{task_at, unit_at, held_until}
+use Rattle.stn_model.specs.Plant.{unit_at, held_until}
 use Rattle.plan_picture.specs.declared.marks.Frame.{Frame}
 use Rattle.plan_picture.specs.Marks.{title, frame_at}
-use Rattle.plan_picture.specs.Bars.{is_seen, span, color_begin, edge_class, frame_words}
+use Rattle.plan_picture.specs.Captions.{task_caption}
+use Rattle.plan_picture.specs.Bars.{is_seen, span, colour_begin, edge_class, frame_words}
 
 -- until when a batch goes on that began before the plan
 unfoldable pub until_words : ℕ → List ℕ
@@ -14,13 +15,13 @@ until_words until = codes "until " ++ decimal until
 
 -- what a pointer on the bar of such a batch shows: its task, and until when it goes on
 unfoldable pub held_title : Plant → ℕ → ℕ → List ℕ
-held_title plant task until = (task_at plant task).name ++ (codes " " ++ until_words until)
+held_title plant task until = task_caption plant task ++ (codes " " ++ until_words until)
 
 -- its bar in a frame: what is left of it, without a size
 unfoldable pub held_bar : Plant → ℕ → ℕ → Frame → List ℕ
 held_bar plant task until frame =
-    color_begin task ++ (title (held_title plant task until) ++ (frame_at (edge_class task) frame
-    ++ (frame_words frame (task_at plant task).name (until_words until) ++ codes "</g>\n")))
+    colour_begin plant task ++ (title (held_title plant task until) ++ (frame_at (edge_class task) frame
+    ++ (frame_words frame (task_caption plant task) (until_words until) ++ codes "</g>\n")))
 
 -- what a band shows of a batch of a task that holds a unit from the begin until a time
 unfoldable pub held_within : Plant → ℕ → ℕ → ℕ → ℕ → List ℕ

@@ -2,10 +2,11 @@
 use Rattle.std.specs.Prelude.{◌≡◌, ℕ, pos, ◌+◌, ◌/◌, ◌^◌, ◌<◌, ◌==◌, ◌&&◌, nat_le, nat_lt, Bool, IsTrue, List, ◌++◌, length, filter, flat_map, slice_index_or}
 use Rattle.stn_model.specs.declared.plant.Plant.{Plant}
 use Rattle.stn_model.specs.declared.start.Start.{Start}
-use Rattle.stn_model.specs.Plant.{task_at, end_of}
+use Rattle.stn_model.specs.Plant.{end_of}
 use Rattle.stn_model.specs.Stock.{stock}
 use Rattle.stn_model.specs.Load.{load}
 use Rattle.plan_picture.specs.declared.marks.Frame.{Frame}
+use Rattle.plan_picture.specs.Captions.{task_caption}
 use Rattle.plan_picture.specs.Scale.{band_count, time_of, periods_in, band_part, x_at, unit_top}
 use Rattle.plan_picture.specs.Bars.{is_seen, bar_title, bar_frame, whole_bar}
 use Rattle.plan_picture.specs.Graphs.{stocks_of, loads_of}
@@ -47,20 +48,20 @@ bars_of plant plan band = flat_map (whole_bar plant band) (filter (is_shown plan
 abbrev pub IsSmall : Start → Type 0
 IsSmall start = (start.period < 2 ^ 32) × (start.unit < 2 ^ 32) × (start.task < 2 ^ 32) × (start.quanta < 2 ^ 32)
 
--- two batches are of one task, by its name, and of one size, from one time to one time
+-- two batches are of one task, by what it is called, and of one size, from one time to one time
 abbrev pub AreAlike : Plant → Start → Start → Type 0
 AreAlike plant a b =
-    ((task_at plant a.task).name ≡ (task_at plant b.task).name)
+    (task_caption plant a.task ≡ task_caption plant b.task)
     × (a.quanta ≡ b.quanta) × (a.period ≡ b.period) × (end_of plant a ≡ end_of plant b)
 
--- Each batch of the plan has one bar in each band that shows something of it, and the bar tells its task, its size, its start and its end.
+-- Each batch of the plan has one bar in each band that shows something of it, and the bar tells what its task is called, its size, its start and its end.
 pub record BarsTellBatches (plant : Plant) (plan : List Start) : Type 0 where
   -- in the text of the picture stand, for each band, the bars of exactly the batches that it shows something of, each once
   pub bars : (band : ℕ) → band < band_count plant → StandsIn (bars_of plant plan band) (picture_text plant plan)
   -- the band of its start shows each batch of a task of the plant that begins within the horizon
   pub shown : (start : Start) → start.task < length plant.tasks → start.period < plant.periods
       → (start.period / 48 < band_count plant) × IsTrue (is_shown plant (start.period / 48) start)
-  -- by its title alone, which a pointer shows, a bar tells its task, its size, its start and its end
+  -- by its title alone, which a pointer shows, a bar tells what its task is called, its size, its start and its end
   pub titles : (a b : Start) → IsSmall a → IsSmall b → bar_title plant a ≡ bar_title plant b → AreAlike plant a b
   -- in no band have two batches the same bar
   pub alone : (a b : Start) → IsSmall a → IsSmall b → (band : ℕ) → whole_bar plant band a ≡ whole_bar plant band b → a ≡ b

@@ -1,4 +1,7 @@
 pub mod Bars
+pub mod Captions
+pub mod Columns
+pub mod Days
 pub mod Held
 pub mod Chart
 pub mod Graphs

@@ -1,6 +1,7 @@
 -- The elements that a picture is made of, as SVG writes them.
-use Rattle.std.specs.Prelude.{ℕ, ◌-◌, ◌==◌, nat_le, if◌then◌else◌, List, [], ◌∷◌, ◌++◌, length, take, codes, decimal, flat_map}
+use Rattle.std.specs.Prelude.{ℕ, ◌-◌, ◌==◌, nat_le, if◌then◌else◌, List, [], ◌∷◌, ◌++◌, codes, decimal, flat_map}
 use Rattle.plan_picture.specs.declared.marks.Frame.{Frame}
+use Rattle.plan_picture.specs.Columns.{columns, beginning}
 
 -- a byte as XML writes it in a text: '&', '<' and '>' have names of their own
 unfoldable pub escaped_byte : ℕ → List ℕ
@@ -19,9 +20,9 @@ words_begin class x y = codes "<text class=\"" ++ (class ++ (codes "\" x=\"" ++ 
 unfoldable pub words_at : List ℕ → ℕ → ℕ → List ℕ → List ℕ
 words_at class x y words = words_begin class x y ++ (escaped words ++ codes "</text>\n")
 
--- a text where only so many letters have room: it is whole, or cut with two points at its end
+-- a text where only so many letters have room: it is whole, or cut between two characters, with two points at its end
 unfoldable pub shortened : ℕ → List ℕ → List ℕ
-shortened room text = if nat_le (length text) room then text else take (room - 2) text ++ codes ".."
+shortened room text = if nat_le (columns text) room then text else beginning (room - 2) text ++ codes ".."
 
 -- a title, which a pointer on its group shows
 unfoldable pub title : List ℕ → List ℕ
@@ -30,7 +31,7 @@ title text = codes "<title>" ++ (escaped text ++ codes "</title>\n")
 -- words in a room of so many letters; where they are cut, a pointer shows the whole
 unfoldable pub fitted : List ℕ → ℕ → ℕ → ℕ → List ℕ → List ℕ
 fitted class x y room text =
-    if nat_le (length text) room then words_at class x y text
+    if nat_le (columns text) room then words_at class x y text
     else codes "<g>" ++ (title text ++ (words_at class x y (shortened room text) ++ codes "</g>\n"))
 
 -- a rectangle of a class

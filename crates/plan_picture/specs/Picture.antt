@@ -4,14 +4,15 @@ use Rattle.std.specs.List.{range_with_len}
 use Rattle.std.specs.Fmt.{signed_decimal}
 use Rattle.stn_model.specs.declared.plant.Plant.{Plant}
 use Rattle.stn_model.specs.declared.start.Start.{Start}
-use Rattle.stn_model.specs.Plant.{task_at}
 use Rattle.stn_model.specs.Profit.{profit}
-use Rattle.plan_picture.specs.Marks.{words_at, box_at}
-use Rattle.plan_picture.specs.Scale.{band_count, chart_width, tasks_in_line, band_height, band_top}
+use Rattle.plan_picture.specs.Captions.{task_caption}
+use Rattle.plan_picture.specs.Marks.{words_at, fitted, box_at}
+use Rattle.plan_picture.specs.Scale.{band_count, chart_width, tasks_in_line, days_top, band_top}
 use Rattle.plan_picture.specs.Chart.{part_head, grid}
-use Rattle.plan_picture.specs.Bars.{unit_rows, outage_boxes, cleanings, color_begin, edge_class, bars}
+use Rattle.plan_picture.specs.Bars.{unit_rows, outage_boxes, cleanings, colour_begin, edge_class, bars}
 use Rattle.plan_picture.specs.Held.{held_bars}
 use Rattle.plan_picture.specs.Graphs.{touched_count, stocks, loads}
+use Rattle.plan_picture.specs.Days.{days}
 
 -- the first line: the size of the document
 unfoldable pub size_line : ℕ → ℕ → List ℕ
@@ -55,13 +56,13 @@ profit_words profit = words_at (codes "title") 0 16 (codes "profit " ++ signed_d
 unfoldable pub keys : List ℕ
 keys = codes "<rect class=\"outage\" x=\"240\" y=\"2\" width=\"24\" height=\"20\"/>\n<text class=\"task\" x=\"270\" y=\"16\">outage</text>\n<path class=\"clean\" d=\"M360 12h24\"/>\n<text class=\"task\" x=\"390\" y=\"16\">cleaning</text>\n<path class=\"limit\" d=\"M480 12h24\"/>\n<text class=\"most\" x=\"510\" y=\"16\">limit</text>\n<rect class=\"pole\" x=\"600\" y=\"2\" width=\"2\" height=\"20\"/>\n<rect class=\"cloth\" x=\"600\" y=\"2\" width=\"24\" height=\"11\"/>\n<text class=\"flag\" x=\"630\" y=\"16\">receipt +, delivery -</text>\n"
 
--- the entry of a task in the legend: a patch in its colour and with its edge, and its name
+-- the entry of a task in the legend: a patch in its colour and with its edge, and what it is called, in a room of 34 letters
 unfoldable pub legend_entry : Plant → ℕ → List ℕ
 legend_entry plant task =
     let x = 240 * (task % tasks_in_line plant) in
     let y = 22 + 22 * (task / tasks_in_line plant) in
-    color_begin task ++ (box_at (edge_class task) (x + 2) (y + 3) 24 16
-    ++ (words_at (codes "task") (x + 32) (y + 14) (task_at plant task).name ++ codes "</g>\n"))
+    colour_begin plant task ++ (box_at (edge_class task) (x + 2) (y + 3) 24 16
+    ++ (fitted (codes "task") (x + 32) (y + 14) 34 (task_caption plant task) ++ codes "</g>\n"))
 
 -- the legend: an entry for each task
 abbrev pub legend : Plant → List ℕ
@@ -82,14 +83,14 @@ gantt plant plan band = outage_boxes plant band ++ (held_bars plant band ++ (cle
 -- the units of a band: a head, the rows of all units, the lines of all times, and what stands in the rows
 unfoldable pub units : Plant → List Start → ℕ → ℕ → List ℕ
 units plant plan states band =
-    part_head plant band 0 (codes "units") ++ (unit_rows plant band ++ (grid plant band (band_height plant states)
+    part_head plant band 0 (codes "units") ++ (unit_rows plant band ++ (grid plant band (days_top plant states)
     ++ gantt plant plan band))
 
--- a band: its units with their batches, the stocks of so many states, and the loads
+-- a band: its units with their batches, the stocks of so many states, the loads, and days and hours
 unfoldable pub band_text : Plant → List Start → ℕ → ℕ → List ℕ
 band_text plant plan states band =
     band_begin (band_top plant states band) ++ (units plant plan states band ++ (stocks plant plan states band
-    ++ (loads plant plan states band ++ codes "</g>\n")))
+    ++ (loads plant plan states band ++ (days plant states band ++ codes "</g>\n"))))
 
 -- all bands
 unfoldable pub bands : Plant → List Start → ℕ → List ℕ

@@ -1,7 +1,8 @@
 -- How large a picture is drawn, in pixels: bands of 48 periods, one below the other, in rows of 22.
-use Rattle.std.specs.Prelude.{ℕ, ◌+◌, ◌-◌, ◌*◌, ◌/◌, ◌==◌, min, max, if◌then◌else◌, length, List}
+use Rattle.std.specs.Prelude.{ℕ, ◌+◌, ◌-◌, ◌*◌, ◌/◌, ◌==◌, min, max, if◌then◌else◌, length, List, Option, Some, None}
 use Rattle.std.specs.Prelude.{take, drop}
 use Rattle.stn_model.specs.declared.plant.Plant.{Plant}
+use Rattle.stn_model.specs.declared.plant.Calendar.{Calendar}
 
 -- how many bands the chart has: 48 periods each, and in the last what is left
 abbrev pub band_count : Plant → ℕ
@@ -52,9 +53,18 @@ stocks_top plant = 22 + 22 * length plant.units
 abbrev pub loads_top : Plant → ℕ → ℕ
 loads_top plant states = stocks_top plant + 22 * part_rows states
 
--- where a band ends: below the rows of all utilities
+-- where the days and hours of a band begin: below the rows of all utilities
+abbrev pub days_top : Plant → ℕ → ℕ
+days_top plant states = loads_top plant states + 22 * part_rows (length plant.utilities)
+
+-- how high the row of days and hours is; nothing where there is no calendar
+abbrev pub days_height : Option Calendar → ℕ
+days_height None = 0
+days_height (Some calendar) = 22
+
+-- where a band ends: below its days and hours
 abbrev pub band_height : Plant → ℕ → ℕ
-band_height plant states = loads_top plant states + 22 * part_rows (length plant.utilities)
+band_height plant states = days_top plant states + days_height plant.calendar
 
 -- how many tasks stand in a line of the legend
 unfoldable pub tasks_in_line : Plant → ℕ

@@ -1,6 +1,8 @@
--- What a picture shows, and where a row of steps stands.
+-- What a picture shows, where a row of steps stands, and where one of days.
 use Rattle.std.specs.Prelude.{◌<◌, ◌≤◌, ◌^◌, length}
+use Rattle.stn_model.specs.Labels.{SoundCalendar}
 use Rattle.stn_model.specs.Sound.{Sound}
+use Rattle.plan_picture.specs.declared.days.DayRow.{DayRow}
 use Rattle.plan_picture.specs.declared.shown.Shown.{Shown}
 use Rattle.plan_picture.specs.declared.steps.StepRow.{StepRow}
 
@@ -16,3 +18,10 @@ pub record IsStepRow (row : StepRow) : Type 0 where
   pub place : row.y ≤ 2 ^ 42
   pub some : 1 ≤ row.top
   pub most : row.top ≤ 2 ^ 127
+
+-- the plant and its calendar are sound, the band is one of eight, and the row is not too low
+pub record IsDayRow (row : DayRow) : Type 0 where
+  pub sound : Sound row.plant.now
+  pub calendar : SoundCalendar row.calendar.now
+  pub there : row.band ≤ 7
+  pub low : row.y ≤ 2 ^ 42

@@ -1,12 +1,13 @@
 //! The Gantt chart of a band: a row for each unit, the outages, and a bar for each batch.
 ghost use Rattle.std.specs.Prelude.{◌≡◌, ◌≤◌, ◌<◌, ◌+◌, ◌*◌, ◌^◌, ◌++◌, IsTrue, OnOk, IfOk, length};
 ghost use Rattle.std.specs.String.{string_bytes};
-ghost use Rattle.stn_model.specs.Plant.{task_at, unit_at, end_of};
+ghost use Rattle.stn_model.specs.Plant.{task_at, end_of};
 ghost use Rattle.stn_model.specs.Sound.{Sound};
 ghost use Rattle.plan_picture.specs.Marks.{words_at, shortened, title, frame_at};
 ghost use Rattle.plan_picture.specs.Shown.{IsShown};
-ghost use Rattle.plan_picture.specs.Bars.{is_seen, unit_row, unit_rows, outage_box, outage_boxes, color_begin, edge_class, size_words, when_words, bar_title, bar_frame, frame_words, whole_bar, bar, bars};
+ghost use Rattle.plan_picture.specs.Bars.{is_seen, unit_row, unit_rows, outage_box, outage_boxes, class_begin, own_colour, colour_begin, edge_class, size_words, when_words, bar_title, bar_frame, frame_words, whole_bar, bar, bars};
 
+use crate::captions::{task_caption, unit_caption};
 use crate::marks::{Frame, push_frame, push_title, push_words, shortened};
 use crate::rows::push_row_name;
 use crate::scale::{letters_in, period_width, periods_in, unit_top};
@@ -16,7 +17,7 @@ use crate::written::Written;
 use std::alloc::{AllocError, Global};
 use stn_model::{Outage, Plant, Start, end};
 
-/// Appends the rows of all units: their names, and the ground of their idle time.
+/// Appends the rows of all units: what they are called, and the ground of their idle time.
 #[tactic(auto, using(crate::proofs::Ranges::pieces_next))]
 pub fn push_unit_rows(alloc: Global, text: &mut Vec<u8>, plant: &Plant, band: u32) -> Written
     requires sound { Sound plant.now }
@@ -37,7 +38,7 @@ fn push_unit_row(alloc: Global, text: &mut Vec<u8>, plant: &Plant, band: u32, un
     ensures { OnOk result (text.new.items ≡ text.old.items ++ unit_row plant.now band unit) }
 {
     let top = unit_top(unit);
-    push_row_name(alloc, text, top + 15, unit_name(plant, unit))?;
+    push_row_name(alloc, text, top + 15, unit_caption(plant, unit))?;
     let ground = Frame {
         x: 128,
         y: top + 1,
@@ -45,13 +46,6 @@ fn push_unit_row(alloc: Global, text: &mut Vec<u8>, plant: &Plant, band: u32, un
         height: 20,
     };
     push_frame(alloc, text, "row", ground)
-}
-
-fn unit_name(plant: &Plant, unit: u32) -> &[u8]
-    requires { unit < length plant.now.units }
-    ensures { result.now ≡ (unit_at plant.now unit).name }
-{
-    plant.units.get(unit as usize).name.as_slice()
 }
 
 /// Appends the outages that the band shows.
@@ -90,13 +84,45 @@ fn push_outage(
 }
 
 /// Appends where a group in the colour of a task begins.
-#[tactic(auto, unfolding(crate::specs::Bars::color_begin))]
-pub fn push_color_begin(alloc: Global, text: &mut Vec<u8>, task: u32) -> Written
-    ensures { OnOk result (text.new.items ≡ text.old.items ++ color_begin task) }
+#[tactic(auto, unfolding(crate::specs::Bars::colour_begin))]
+pub fn push_colour_begin(alloc: Global, text: &mut Vec<u8>, plant: &Plant, task: u32) -> Written
+    ensures { OnOk result (text.new.items ≡ text.old.items ++ colour_begin plant.now task) }
 {
-    let color = task % 8;
-    let begin = format!(in alloc; "<g class=\"c{color}\">")?;
+    push_class_begin(alloc, text, task)?;
+    push_own_colour(text, task_colour(plant, task))?;
+    text.extend_from_slice(">".as_bytes())
+}
+
+#[tactic(auto, unfolding(crate::specs::Bars::class_begin))]
+fn push_class_begin(alloc: Global, text: &mut Vec<u8>, task: u32) -> Written
+    ensures { OnOk result (text.new.items ≡ text.old.items ++ class_begin task) }
+{
+    let colour = task % 8;
+    let begin = format!(in alloc; "<g class=\"c{colour}\"")?;
     text.extend_from_slice(begin.as_bytes())
+}
+
+#[tactic(auto, unfolding(crate::specs::Bars::own_colour))]
+fn push_own_colour(text: &mut Vec<u8>, colour: &[u8]) -> Written
+    ensures { OnOk result (text.new.items ≡ text.old.items ++ own_colour colour.now) }
+{
+    if 0 < colour.len() {
+        text.extend_from_slice(" style=\"fill:".as_bytes())?;
+        text.extend_from_slice(colour)?;
+        text.extend_from_slice("\"".as_bytes())
+    } else {
+        Ok(())
+    }
+}
+
+// The colour of a task; nothing where it has none, or is not there.
+fn task_colour(plant: &Plant, task: u32) -> &[u8]
+    ensures { result.now ≡ (task_at plant.now task).colour }
+{
+    match plant.tasks.as_slice().get(task as usize) {
+        Some(task) => task.colour.as_slice(),
+        None => &[],
+    }
 }
 
 /// The class of a task's edge.
@@ -106,16 +132,6 @@ pub fn edge_class(alloc: Global, task: u32) -> Result<String, AllocError>
 {
     let edge = task / 8;
     format!(in alloc; "d{edge}")
-}
-
-/// The name of a task; nothing where the task is not there.
-pub fn task_name(plant: &Plant, task: u32) -> &[u8]
-    ensures { result.now ≡ (task_at plant.now task).name }
-{
-    match plant.tasks.as_slice().get(task as usize) {
-        Some(task) => task.name.as_slice(),
-        None => &[],
-    }
 }
 
 // The mass of a batch, in mass units.
@@ -154,7 +170,7 @@ fn bar_title(alloc: Global, plant: &Plant, start: &Start, size: &str) -> Result<
 {
     let when = when_words(alloc, plant, start)?;
     let mut words = Vec::new(alloc);
-    words.extend_from_slice(task_name(plant, start.task))?;
+    words.extend_from_slice(task_caption(plant, start.task))?;
     words.extend_from_slice(" ".as_bytes())?;
     words.extend_from_slice(size.as_bytes())?;
     words.extend_from_slice(when.as_bytes())?;
@@ -207,10 +223,10 @@ fn push_whole_bar(
         ≡ text.old.items ++ whole_bar plant.now band start.now) }
 {
     let size = size_words(alloc, plant, start)?;
-    push_color_begin(alloc, text, start.task)?;
+    push_colour_begin(alloc, text, plant, start.task)?;
     push_bar_title(alloc, text, plant, start, size.as_str())?;
     push_edge(alloc, text, start.task, frame)?;
-    let name = task_name(plant, start.task);
+    let name = task_caption(plant, start.task);
     push_frame_words(alloc, text, frame, name, size.as_bytes())?;
     text.extend_from_slice("</g>\n".as_bytes())
 }

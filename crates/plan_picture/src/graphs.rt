@@ -5,6 +5,7 @@ ghost use Rattle.stn_model.specs.Sound.{Sound};
 ghost use Rattle.plan_picture.specs.Graphs.{is_touched, touched_before, band_steps, stock_graph, stock_row, stock_rows, stocks, load_graph, load_row, load_rows, loads};
 ghost use Rattle.plan_picture.specs.Shown.{IsShown};
 
+use crate::captions::{state_caption, utility_caption};
 use crate::flags::{push_load_flags, push_stock_flags};
 use crate::levels::{graph_top, is_touched, loads_of, stocks_of};
 use crate::rows::{push_part_head, push_row_name};
@@ -96,9 +97,8 @@ fn push_stock_graph(
     ensures { OnOk result (text.new.items
         ≡ text.old.items ++ stock_graph plant.now stocks.now band state y) }
 {
-    let place = plant.states.get(state as usize);
-    push_row_name(alloc, text, y + 10, place.name.as_slice())?;
-    let limits = place.limits.as_slice();
+    push_row_name(alloc, text, y + 10, state_caption(plant, state))?;
+    let limits = plant.states.get(state as usize).limits.as_slice();
     push_band_steps(alloc, text, plant, band, y, stocks, limits)?;
     let places = band_part(plant, band, stocks).len();
     push_stock_flags(alloc, text, plant, band, state, y, places)
@@ -197,8 +197,7 @@ fn push_load_graph(
     ensures { OnOk result (text.new.items
         ≡ text.old.items ++ load_graph plant.now loads.now band utility y) }
 {
-    let place = plant.utilities.get(utility as usize);
-    push_row_name(alloc, text, y + 10, place.name.as_slice())?;
+    push_row_name(alloc, text, y + 10, utility_caption(plant, utility))?;
     let limits = limits_of(plant, utility);
     push_band_steps(alloc, text, plant, band, y, loads, limits)?;
     push_load_flags(alloc, text, plant, band_part(plant, band, limits), y)

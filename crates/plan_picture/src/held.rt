@@ -5,7 +5,8 @@ ghost use Rattle.stn_model.specs.Sound.{Sound};
 ghost use Rattle.plan_picture.specs.Marks.{title};
 ghost use Rattle.plan_picture.specs.Held.{until_words, held_title, held_bar, held_within, held, held_bars};
 
-use crate::bars::{push_color_begin, push_edge, push_frame_words, task_name};
+use crate::bars::{push_colour_begin, push_edge, push_frame_words};
+use crate::captions::task_caption;
 use crate::marks::{Frame, push_title};
 use crate::spans::{is_seen, span};
 use crate::written::Written;
@@ -76,10 +77,11 @@ fn push_held_bar(
         ≡ text.old.items ++ held_bar plant.now task until frame) }
 {
     let words = until_words(alloc, until)?;
-    push_color_begin(alloc, text, task)?;
+    push_colour_begin(alloc, text, plant, task)?;
     push_held_title(alloc, text, plant, task, until)?;
     push_edge(alloc, text, task, frame)?;
-    push_frame_words(alloc, text, frame, task_name(plant, task), words.as_bytes())?;
+    let name = task_caption(plant, task);
+    push_frame_words(alloc, text, frame, name, words.as_bytes())?;
     text.extend_from_slice("</g>\n".as_bytes())
 }
 
@@ -103,7 +105,7 @@ fn push_held_title(
 {
     let until = until_words(alloc, until)?;
     let mut words = Vec::new(alloc);
-    words.extend_from_slice(task_name(plant, task))?;
+    words.extend_from_slice(task_caption(plant, task))?;
     words.extend_from_slice(" ".as_bytes())?;
     words.extend_from_slice(until.as_bytes())?;
     push_title(text, words.as_slice())

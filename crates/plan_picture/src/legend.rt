@@ -3,8 +3,9 @@ ghost use Rattle.std.specs.Prelude.{◌≡◌, ◌<◌, ◌^◌, ◌++◌, OnOk,
 ghost use Rattle.stn_model.specs.Sound.{Sound};
 ghost use Rattle.plan_picture.specs.Picture.{size_line, word_style, row_style, task_style, page_style, style, page, ground_begin, profit_words, keys, legend_entry, legend, head};
 
-use crate::bars::{push_color_begin, push_edge, task_name};
-use crate::marks::{Frame, push_frame, push_words};
+use crate::bars::{push_colour_begin, push_edge};
+use crate::captions::task_caption;
+use crate::marks::{Frame, push_fitted, push_frame, push_words};
 use crate::scale::tasks_in_line;
 use crate::written::Written;
 use plain_plan::profit_of;
@@ -144,7 +145,7 @@ fn push_entry(alloc: Global, text: &mut Vec<u8>, plant: &Plant, task: u32) -> Wr
     let line = tasks_in_line(plant);
     let x = 240 * (task as u64 % line);
     let y = 22 + 22 * (task as u64 / line);
-    push_color_begin(alloc, text, task)?;
+    push_colour_begin(alloc, text, plant, task)?;
     let patch = Frame {
         x: x + 2,
         y: y + 3,
@@ -152,6 +153,7 @@ fn push_entry(alloc: Global, text: &mut Vec<u8>, plant: &Plant, task: u32) -> Wr
         height: 16,
     };
     push_edge(alloc, text, task, patch)?;
-    push_words(alloc, text, "task", x + 32, y + 14, task_name(plant, task))?;
+    let name = task_caption(plant, task);
+    push_fitted(alloc, text, "task", x + 32, y + 14, 34, name)?;
     text.extend_from_slice("</g>\n".as_bytes())
 }

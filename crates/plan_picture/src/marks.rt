@@ -2,6 +2,7 @@
 ghost use Rattle.std.specs.Prelude.{◌≡◌, ◌++◌, OnOk, IfOk};
 ghost use Rattle.plan_picture.specs.Marks.{escaped_byte, escaped, words_begin, words_at, shortened, title, fitted, frame_at};
 
+use crate::columns::{columns, push_beginning};
 use crate::written::Written;
 use std::alloc::{AllocError, Global};
 
@@ -72,10 +73,10 @@ pub fn shortened(alloc: Global, room: u64, text: &[u8]) -> Result<Vec<u8>, Alloc
     ensures { IfOk result (λ bytes. bytes.items ≡ shortened room text.now) }
 {
     let mut bytes = Vec::new(alloc);
-    if text.len() as u64 <= room {
+    if columns(text) <= room as u128 {
         bytes.extend_from_slice(text)?;
     } else {
-        bytes.extend_from_slice(&text[..room.saturating_sub(2) as usize])?;
+        push_beginning(&mut bytes, room.saturating_sub(2), text)?;
         bytes.extend_from_slice("..".as_bytes())?;
     }
     Ok(bytes)
@@ -105,7 +106,7 @@ pub fn push_fitted(
     ensures { OnOk result (text.new.items
         ≡ text.old.items ++ fitted class.now x y room words.now) }
 {
-    if words.len() as u64 <= room {
+    if columns(words) <= room as u128 {
         return push_words(alloc, text, class, x, y, words);
     }
     text.extend_from_slice("<g>".as_bytes())?;

@@ -1,7 +1,7 @@
 //! How large a picture is drawn, in pixels.
 ghost use Rattle.std.specs.Prelude.{◌≡◌, ◌≤◌, ◌<◌, ◌^◌, length, take, drop};
 ghost use Rattle.stn_model.specs.Sound.{Sound};
-ghost use Rattle.plan_picture.specs.Scale.{band_count, periods_in, band_part, period_width, letters_in, x_at, chart_width, part_rows, unit_top, stocks_top, loads_top, band_height, tasks_in_line, band_top};
+ghost use Rattle.plan_picture.specs.Scale.{band_count, periods_in, band_part, period_width, letters_in, x_at, chart_width, part_rows, unit_top, stocks_top, loads_top, days_top, days_height, band_height, tasks_in_line, band_top};
 
 use stn_model::Plant;
 
@@ -137,14 +137,35 @@ pub fn loads_top(plant: &Plant, states: u64) -> u64
     stocks_top(plant) + 22 * part_rows(states)
 }
 
+/// Where the days and hours of a band begin.
+pub fn days_top(plant: &Plant, states: u64) -> u64
+    requires sound { Sound plant.now }
+    requires few { states < 2 ^ 32 }
+    ensures value { result ≡ days_top plant.now states }
+    ensures small { result ≤ 2 ^ 39 }
+{
+    loads_top(plant, states) + 22 * part_rows(plant.utilities.len() as u64)
+}
+
+// How high the row of days and hours is.
+fn days_height(plant: &Plant) -> u64
+    ensures value { result ≡ days_height plant.now.calendar }
+    ensures small { result ≤ 22 }
+{
+    match plant.calendar {
+        Some(_) => 22,
+        None => 0,
+    }
+}
+
 /// Where a band ends.
 pub fn band_height(plant: &Plant, states: u64) -> u64
     requires sound { Sound plant.now }
     requires few { states < 2 ^ 32 }
     ensures value { result ≡ band_height plant.now states }
-    ensures small { result ≤ 2 ^ 39 }
+    ensures small { result ≤ 2 ^ 40 }
 {
-    loads_top(plant, states) + 22 * part_rows(plant.utilities.len() as u64)
+    days_top(plant, states) + days_height(plant)
 }
 
 /// How many tasks stand in a line of the legend.

@@ -7,22 +7,24 @@ ghost use Rattle.plan_picture.specs.Laws.{BarsAreBatches, BarsTellBatches, Steps
 
 use crate::bars::{push_bars, push_outages, push_unit_rows};
 use crate::cleaning::push_cleanings;
+use crate::days::push_days;
 use crate::graphs::{push_loads, push_stocks};
 use crate::held::push_held_bars;
 use crate::legend::{push_head, push_page};
 use crate::levels::touched_count;
 use crate::rows::{push_grid, push_part_head};
-use crate::scale::{band_count, band_height, band_top, chart_width};
+use crate::scale::{band_count, band_top, chart_width, days_top};
 use crate::shown::Shown;
 use crate::written::Written;
 use std::alloc::{AllocError, Global};
 use stn_model::{Plant, Start};
 
 /// The picture of the plan, as an SVG document in bands of 48 periods: the units with their batches,
-/// the stocks in mass units at each time, the loads in each period, and the profit in money.
+/// the stocks in mass units at each time, the loads in each period, days and hours where the plant
+/// has a calendar, and the profit in money.
 ///
 /// In the row of each unit, over each period, stand the bars of the batches that it runs then
-/// (`bars`). Each batch has its bar, whose words tell its task, its quanta, its start and its end
+/// (`bars`). Each batch has its bar, whose words tell what its task is called, its quanta, its start and its end
 /// (`words`). The steps of the rows are the stocks and loads of the definitions (`stocks`, `loads`).
 /// It fails only for want of memory. It takes time in proportion to the starts for each step, and
 /// for the cleaning in each band at most with the cube of the plan.
@@ -101,6 +103,7 @@ fn push_band(alloc: Global, text: &mut Vec<u8>, shown: &Shown, band: u32) -> Wri
     push_units(alloc, text, shown, band)?;
     push_stocks(alloc, text, shown, band)?;
     push_loads(alloc, text, shown, band)?;
+    push_days(alloc, text, shown, band)?;
     text.extend_from_slice("</g>\n".as_bytes())
 }
 
@@ -122,7 +125,7 @@ fn push_units(alloc: Global, text: &mut Vec<u8>, shown: &Shown, band: u32) -> Wr
 {
     push_part_head(alloc, text, shown.plant, band, 0, "units")?;
     push_unit_rows(alloc, text, shown.plant, band)?;
-    let height = band_height(shown.plant, shown.states);
+    let height = days_top(shown.plant, shown.states);
     push_grid(alloc, text, shown.plant, band, height)?;
     push_gantt(alloc, text, shown, band)
 }

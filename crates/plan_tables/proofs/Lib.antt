@@ -1,4 +1,5 @@
 mod Charges
+mod Ends
 mod Orders
 mod Periods
 mod Ranges

@@ -38,7 +38,7 @@ below_both k n = grind (arith, nat_tests)
 below_here : (k n : ℕ) → (ltb k (n + 1) && not (ltb k n)) ≡ eqb k n
 below_here k n = grind (arith, nat_tests)
 
-pieces_more : {A : Type 0} (f : ℕ → List A) (n : ℕ) → flat_map f (range_with_len 0 (n + 1)) ≡ flat_map f (range_with_len 0 n) ++ f n
+pub pieces_more : {A : Type 0} (f : ℕ → List A) (n : ℕ) → flat_map f (range_with_len 0 (n + 1)) ≡ flat_map f (range_with_len 0 n) ++ f n
 pieces_more f n = ap (flat_map f) (range_next n) ∙ sym (flat_map_more f [] (range_with_len 0 n) n)
 
 grouped_more : {X : Type 0} (key : X → ℕ) (xs : List X) (n : ℕ) → IsPermutation (filter (λ x. ltb (key x) n) xs) (flat_map (λ k. filter (λ x. eqb (key x) k) xs) (range_with_len 0 n))

@@ -1,12 +1,14 @@
 -- The table of the batches: a line for each start of a plan, by units and periods.
-use Rattle.std.specs.Prelude.{ℕ, ℤ, ◌+◌, ◌*◌, ◌==◌, Bool, List, ◌++◌, length, filter, flat_map, sum_by, codes, decimal}
+use Rattle.std.specs.Prelude.{ℕ, ℤ, ◌+◌, ◌*◌, ◌==◌, Bool, Option, Some, None, List, [], ◌++◌, length, filter, flat_map, sum_by, codes, decimal}
 use Rattle.std.specs.List.{range_with_len}
 use Rattle.std.specs.List.Sorted.{IsPermutation}
 use Rattle.std.specs.Fmt.{signed_decimal}
 use Rattle.stn_model.specs.declared.plant.Plant.{Plant}
+use Rattle.stn_model.specs.declared.plant.Calendar.{Calendar}
 use Rattle.stn_model.specs.declared.start.Start.{Start}
 use Rattle.stn_model.specs.Plant.{task_at, unit_at, run_on, end_of}
 use Rattle.stn_model.specs.Profit.{cost_of, changeover, first_change}
+use Rattle.plant_labels.specs.Clock.{moment_at, moment_text}
 
 -- the batch is on this unit
 abbrev pub is_on : ℕ → Start → Bool
@@ -54,17 +56,30 @@ size_cells start end quanta mass = codes "," ++ (decimal start ++ (codes "," ++ 
 
 -- what a batch costs, and what is charged on it
 unfoldable pub cost_cells : ℤ → ℕ → List ℕ
-cost_cells cost charged = codes "," ++ (signed_decimal cost ++ (codes "," ++ (decimal charged ++ codes "\n")))
+cost_cells cost charged = codes "," ++ (signed_decimal cost ++ (codes "," ++ decimal charged))
+
+-- the moment at a time
+abbrev pub clock_cell : Calendar → ℕ → List ℕ
+clock_cell calendar time = codes "," ++ moment_text (moment_at calendar time)
+
+-- the moments at which a batch begins and ends, where the plant has a calendar
+abbrev pub clock_cells : Option Calendar → ℕ → ℕ → List ℕ
+clock_cells None start end = []
+clock_cells (Some calendar) start end = clock_cell calendar start ++ clock_cell calendar end
 
 -- the numbers of a batch on which so much is charged
 unfoldable pub batch_numbers : Plant → Start → ℕ → List ℕ
 batch_numbers plant b charged = size_cells b.period (end_of plant b) b.quanta (mass_of plant b) ++ cost_cells (batch_cost plant b) charged
 
+-- the line of a batch after the names of its unit and its task: its numbers, and its moments
+unfoldable pub batch_cells : Plant → Start → ℕ → List ℕ
+batch_cells plant b charged = batch_numbers plant b charged ++ (clock_cells plant.calendar b.period (end_of plant b) ++ codes "\n")
+
 -- the line of a batch, among the batches of its unit
 unfoldable pub line_among : Plant → List Start → Start → List ℕ
 line_among plant batches b =
     (unit_at plant b.unit).name ++ (codes "," ++ ((task_at plant b.task).name
-    ++ batch_numbers plant b (charge plant batches b)))
+    ++ batch_cells plant b (charge plant batches b)))
 
 -- the line of a batch
 abbrev pub batch_line : Plant → List Start → Start → List ℕ
@@ -74,13 +89,22 @@ batch_line plant plan b = line_among plant (on_unit plan b.unit) b
 abbrev pub batch_lines : Plant → List Start → List ℕ
 batch_lines plant plan = flat_map (batch_line plant plan) (in_order plant plan)
 
+-- the names of the columns that each plant has
+unfoldable pub batch_columns : List ℕ
+batch_columns = codes "unit,task,start,end,quanta,mass,cost,changeover"
+
+-- the names of the columns of the moments, where the plant has a calendar
+abbrev pub clock_columns : Option Calendar → List ℕ
+clock_columns None = []
+clock_columns (Some calendar) = codes ",from,to"
+
 -- the head line of the batches
-unfoldable pub batches_head : List ℕ
-batches_head = codes "unit,task,start,end,quanta,mass,cost,changeover\n"
+unfoldable pub batches_head : Plant → List ℕ
+batches_head plant = batch_columns ++ (clock_columns plant.calendar ++ codes "\n")
 
 -- the table of the batches
 abbrev pub batches_text : Plant → List Start → List ℕ
-batches_text plant plan = batches_head ++ batch_lines plant plan
+batches_text plant plan = batches_head plant ++ batch_lines plant plan
 
 -- each batch of the plan has one line, and there is no other line
 abbrev pub EachOnce : Plant → List Start → Type 0

@@ -80,7 +80,9 @@ fn take_line(
 ) -> Result<(), PlanStop>
     requires units { length plant.now.units ≤ MAX_UNITS }
     requires tasks { length plant.now.tasks ≤ MAX_TASKS }
-    ensures { MatchResult result (λ _. after_line plant.now number plan.old line.now ≡ Ok plan.new) (IsStop (after_line plant.now number plan.old line.now)) }
+    ensures { MatchResult result
+        (λ _. after_line plant.now number plan.old line.now ≡ Ok plan.new)
+        (IsStop (after_line plant.now number plan.old line.now)) }
 {
     if is_comment(line) {
         return Ok(());

@@ -15,6 +15,7 @@ ghost use Rattle.planning_commands.specs.Frames.{OnlyWrites};
 ghost use Rattle.planning_commands.specs.PartSolving.{HoldsPart, LeavesPart, PartSolved};
 
 use crate::planning::plan_part;
+use crate::plant_part::PlantPart;
 use answer_texts::{has_slots, refused_levels};
 use box_advice::Advisers;
 use command_replies::{Reply, Stopped, plant_in};
@@ -117,16 +118,11 @@ fn log_rows_of_part<A: Advisers, F: Shelf>(
     let levels = part.levels.number;
     let rows = part_rows(alloc, plant, levels, part.number)?;
     let judged = plant_root(alloc, plant)?;
-    plan_part::<A, _>(
-        alloc,
-        files,
+    let planned = PlantPart {
         plant,
-        rows.program,
+        program: rows.program,
         judged,
         levels,
-        &[],
-        None,
-        budget,
-        Some(log),
-    )
+    };
+    plan_part::<A, _>(alloc, files, planned, &[], None, budget, Some(log))
 }

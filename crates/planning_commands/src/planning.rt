@@ -22,11 +22,11 @@ ghost use Rattle.planning_commands.specs.NamedLog.{LogLeft, told_log};
 ghost use Rattle.planning_commands.specs.Replanning.{IsBegunOutcome, LeavesPartLog};
 ghost use Rattle.planning_commands.specs.Solving.{LeavesPlant};
 
+use crate::plant_part::PlantPart;
 use answer_texts::{counted_since, in_money, planned};
 use box_advice::Advisers;
 use command_replies::{Reply, Stopped};
 use command_words::Budget;
-use row_kit::{Domain, List, Program};
 use row_set::{plant_root, program_of};
 use std::alloc::{AllocError, Global};
 use stn_edge::{Shelf, Stop};
@@ -62,49 +62,49 @@ pub fn plan_plant<A: Advisers, F: Shelf>(
 {
     let program = program_of(alloc, plant)?;
     let judged = plant_root(alloc, plant)?;
-    plan_part::<A, _>(
-        alloc, files, plant, program, judged, 0, start, since, budget, log,
-    )
+    let part = PlantPart {
+        plant,
+        program,
+        judged,
+        levels: 0,
+    };
+    plan_part::<A, _>(alloc, files, part, start, since, budget, log)
 }
 
-/// The answer of planning over the program of a part of a plant's choices, as `plan_plant` answers over the plant. The part is one of
-/// those that are told apart by so many first slots, 0 where there is none beside it. The head of the log is judged over domains: those
-/// of the plant's slots, and where starts are kept the part's own.
-pub fn plan_part<A: Advisers, F: Shelf>(
+// The answer of planning over the program of a part of a plant's choices, as `plan_plant` answers over the plant.
+pub(crate) fn plan_part<A: Advisers, F: Shelf>(
     alloc: Global,
     files: &mut F,
-    plant: &Plant,
-    part: Program,
-    judged: List<Domain>,
-    levels: u32,
+    part: PlantPart,
     start: &[Start],
     since: Option<u32>,
     budget: Budget,
     log: Option<&str>,
 ) -> Result<Reply, Stopped>
-    requires sound { Sound plant.now }
-    requires part { IsPartOf plant.now part }
-    requires ranges { AreRanges part judged }
+    requires sound { Sound part.plant.now }
+    requires part { IsPartOf part.plant.now part.program }
+    requires ranges { AreRanges part.program part.judged }
     requires short { length start.now < 2 ^ 32 }
     requires allowed { IfSome (named_log log) (λ name. IsTrue (F.may_write files.old name)) }
-    ensures answer { IfOk result (λ reply. Planned plant.now (counted_since since start.now)
-        (IsBegunOutcome plant.now part start.now budget.boxes)
-        (HasProof plant.now part judged levels
+    ensures answer { IfOk result (λ reply. Planned part.entry.plant.now
+        (counted_since since start.now)
+        (IsBegunOutcome part.entry.plant.now part.entry.program start.now budget.boxes)
+        (HasProof part.entry.plant.now part.entry.program part.entry.judged part.entry.levels
         (told_log (named_log log.entry) (F.files files.new)))
         reply.status reply.text.items) }
     ensures none { IfRefused result (λ _. ⊥) }
     ensures no_fault { result ≢ Err Stopped.ReadFault }
     ensures writing { WritesLog F.Shelf (named_log log.entry) files.old files.new result }
     ensures left { LogLeft (named_log log.entry)
-        (λ name. LeavesPartLog plant.now part judged levels name (F.files files.old)
-        (F.files files.new)) (F.files files.old) (F.files files.new) }
+        (λ name. LeavesPartLog part.entry.plant.now part.entry.program part.entry.judged
+        part.entry.levels name (F.files files.old) (F.files files.new))
+        (F.files files.old) (F.files files.new) }
     ensures others { OthersLeft (named_log log.entry) (F.files files.old) (F.files files.new) }
     ensures kept { OnlyWrites F.Shelf files.old files.new }
 {
+    let plant = part.plant;
     let point = point_of(alloc, plant, start)?;
-    let outcome = outcome_of::<A, _>(
-        alloc, files, plant, part, judged, levels, budget, &point, log,
-    )?;
+    let outcome = outcome_of::<A, _>(alloc, files, part, budget, &point, log)?;
     Ok(reply_of(alloc, plant, &outcome, start, since)?)
 }
 
@@ -112,39 +112,45 @@ pub fn plan_part<A: Advisers, F: Shelf>(
 fn outcome_of<A: Advisers, F: Shelf>(
     alloc: Global,
     files: &mut F,
-    plant: &Plant,
-    part: Program,
-    judged: List<Domain>,
-    levels: u32,
+    part: PlantPart,
     budget: Budget,
     point: &[u8],
     log: Option<&str>,
 ) -> Result<Outcome, Stopped>
-    requires sound { Sound plant.now }
-    requires part { IsPartOf plant.now part }
-    requires ranges { AreRanges part judged }
+    requires sound { Sound part.plant.now }
+    requires part { IsPartOf part.plant.now part.program }
+    requires ranges { AreRanges part.program part.judged }
     requires allowed { IfSome (named_log log) (λ name. IsTrue (F.may_write files.old name)) }
-    ensures outcome { IfOk result (IsPartOutcome plant.now part budget.boxes) }
+    ensures outcome { IfOk result
+        (IsPartOutcome part.entry.plant.now part.entry.program budget.boxes) }
     ensures proof { IfOk result
-        (HasProof plant.now part judged levels
+        (HasProof part.entry.plant.now part.entry.program part.entry.judged part.entry.levels
         (told_log (named_log log.entry) (F.files files.new))) }
-    ensures begun { IfOk result (λ outcome. EarnsPoint part point.now outcome.answer) }
+    ensures begun { IfOk result
+        (λ outcome. EarnsPoint part.entry.program point.now outcome.answer) }
     ensures none { IfRefused result (λ _. ⊥) }
     ensures no_fault { result ≢ Err Stopped.ReadFault }
     ensures writing { WritesLog F.Shelf (named_log log.entry) files.old files.new result }
     ensures left { LogLeft (named_log log.entry)
-        (λ name. LeavesPartLog plant.now part judged levels name (F.files files.old)
-        (F.files files.new)) (F.files files.old) (F.files files.new) }
+        (λ name. LeavesPartLog part.entry.plant.now part.entry.program part.entry.judged
+        part.entry.levels name (F.files files.old) (F.files files.new))
+        (F.files files.old) (F.files files.new) }
     ensures others { OthersLeft (named_log log.entry) (F.files files.old) (F.files files.new) }
     ensures kept { OnlyWrites F.Shelf files.old files.new }
 {
+    let PlantPart {
+        plant,
+        program,
+        judged,
+        levels,
+    } = part;
     let Some(name) = log else {
-        return Ok(plan_rows::<A>(alloc, plant, part, judged, levels, budget.boxes, point)?);
+        return Ok(plan_rows::<A>(alloc, plant, program, judged, levels, budget.boxes, point)?);
     };
     match solve_rows_to::<A, _>(
         alloc,
         plant,
-        part,
+        program,
         judged,
         levels,
         budget.boxes,

@@ -9,6 +9,7 @@ ghost use Rattle.planning_commands.specs.PlanningOn.{CanGoOn, LeftOn};
 ghost use Rattle.planning_commands.specs.Replanning.{Replanned};
 
 use crate::planning::plan_part;
+use crate::plant_part::PlantPart;
 use answer_texts::broken;
 use box_advice::Advisers;
 use command_replies::{Reply, Stopped};
@@ -46,20 +47,14 @@ pub fn replan<A: Advisers, F: Shelf>(
 {
     match keep(alloc, plant, plan, period)? {
         Keeping::Open(rows) => {
-            let since = Some(period);
             let judged = List::from_slice(alloc, rows.program.root.as_slice())?;
-            plan_part::<A, _>(
-                alloc,
-                files,
+            let part = PlantPart {
                 plant,
-                rows.program,
+                program: rows.program,
                 judged,
-                0,
-                plan,
-                since,
-                budget,
-                log,
-            )
+                levels: 0,
+            };
+            plan_part::<A, _>(alloc, files, part, plan, Some(period), budget, log)
         }
         Keeping::Broken(violation) => Ok(broken(alloc, plant, &violation)?),
     }

@@ -36,9 +36,19 @@ use stn_model::Plant;
 use sum_lines::{Front, Head, read_head};
 use valid_log::LogVerdict;
 
-/// Checks the log of any version that lies in a file of the shelf, over the program of a part of a plant's choices, with at most so many
-/// splits one in another. In version 3 its sums are to be shown by `ranges`, in version 4 its head is judged over `root`: both are
-/// domains in which the program's points lie.
+/// A part of a plant's choices, over which a log is checked.
+#[derive(Drop)]
+pub struct CheckedPart<'a> {
+    /// The plant whose plans the claim is of.
+    pub plant: &'a Plant,
+    /// The program of the part.
+    pub program: Program,
+    /// In the log at most so many splits stand one in another.
+    pub depth: u32,
+}
+
+/// Checks the log of any version that lies in a file of the shelf, over a part of a plant's choices. In version 3 its sums are to be shown
+/// by `ranges`, in version 4 its head is judged over `root`: both are domains in which the points of the part's program lie.
 ///
 /// A log with a head is read in two passes: its head, and what follows. It takes memory as `check_rows` does, and for the declared
 /// sums, the derivations and the larger program, and where it has setups for the program without them, too.
@@ -49,32 +59,32 @@ use valid_log::LogVerdict;
 /// admits. `Fault` comes only where a read failed.
 pub fn check_any<F: Shelf>(
     alloc: Global,
-    plant: &Plant,
-    program: Program,
+    part: CheckedPart,
     ranges: &[Domain],
     root: &[Domain],
-    depth: u32,
     files: &mut F,
     name: &str,
 ) -> Result<LogVerdict, CheckStop>
-    requires sound { Sound plant.now }
-    requires part { IsPartOf plant.now program }
-    requires ranges { AreRanges program ranges.now }
-    requires root { AreRanges program root.now }
+    requires sound { Sound part.plant.now }
+    requires part { IsPartOf part.plant.now part.program }
+    requires ranges { AreRanges part.program ranges.now }
+    requires root { AreRanges part.program root.now }
     requires allowed { IsTrue (F.may_read files.old name.now) }
     ensures verdict { IfOk result (λ verdict. IfSome (F.files files.old)
-        (λ m. IsAnyVerdict plant.now program ranges.now root.now depth (file_of m name.now) verdict)) }
-    ensures says { IfOk result (YesSaysOf plant.now program) }
-    ensures fault { result ≡ Err CheckStop.Fault → Rose (F.read_faults files.old) (F.read_faults files.new) }
+        (λ m. IsAnyVerdict part.entry.plant.now part.entry.program ranges.now root.now
+        part.entry.depth (file_of m name.now) verdict)) }
+    ensures says { IfOk result (YesSaysOf part.entry.plant.now part.entry.program) }
+    ensures fault { result ≡ Err CheckStop.Fault
+        → Rose (F.read_faults files.old) (F.read_faults files.new) }
     ensures frame { OnlyReads F.Shelf files.old files.new }
 {
-    let limits = limits_with(&program, depth, 0);
+    let limits = limits_with(&part.program, part.depth, 0);
     match read_head(alloc, &limits, files, name)? {
-        Front::Plain => check_plain(alloc, plant, program, depth, files, name),
+        Front::Plain => check_plain(alloc, part, files, name),
         Front::Bad(defect) => Ok(LogVerdict::No(defect)),
         Front::Headed(head) => {
             let judged = judged_over(ranges, root, head.version);
-            check_headed(alloc, plant, program, judged, depth, head, files, name)
+            check_headed(alloc, part, judged, head, files, name)
         }
     }
 }
@@ -82,26 +92,25 @@ pub fn check_any<F: Shelf>(
 // Checks a log without a head.
 fn check_plain<F: Shelf>(
     alloc: Global,
-    plant: &Plant,
-    program: Program,
-    depth: u32,
+    part: CheckedPart,
     files: &mut F,
     name: &str,
 ) -> Result<LogVerdict, CheckStop>
-    requires sound { Sound plant.now }
-    requires part { IsPartOf plant.now program }
+    requires sound { Sound part.plant.now }
+    requires part { IsPartOf part.plant.now part.program }
     requires allowed { IsTrue (F.may_read files.old name.now) }
     ensures verdict { IfOk result (λ verdict. IfSome (F.files files.old)
-        (λ m. IsVerdict (plain program) depth (file_of m name.now) verdict)) }
-    ensures says { IfOk result (YesSaysOf plant.now program) }
-    ensures fault { result ≡ Err CheckStop.Fault → Rose (F.read_faults files.old) (F.read_faults files.new) }
+        (λ m. IsVerdict (plain part.entry.program) part.entry.depth (file_of m name.now) verdict)) }
+    ensures says { IfOk result (YesSaysOf part.entry.plant.now part.entry.program) }
+    ensures fault { result ≡ Err CheckStop.Fault
+        → Rose (F.read_faults files.old) (F.read_faults files.new) }
     ensures frame { OnlyReads F.Shelf files.old files.new }
 {
     let rows = Rows {
-        program,
+        program: part.program,
         choices: None,
     };
-    check_rows(alloc, &rows, depth, files, name)
+    check_rows(alloc, &rows, part.depth, files, name)
 }
 
 // The domains over which a head of a version is judged.
@@ -116,91 +125,89 @@ fn judged_over<'a>(ranges: &'a [Domain], root: &'a [Domain], version: u8) -> &'a
 // Checks what follows the sums of a head.
 fn check_headed<F: Shelf>(
     alloc: Global,
-    plant: &Plant,
-    program: Program,
+    part: CheckedPart,
     judged: &[Domain],
-    depth: u32,
     head: Head,
     files: &mut F,
     name: &str,
 ) -> Result<LogVerdict, CheckStop>
-    requires sound { Sound plant.now }
-    requires part { IsPartOf plant.now program }
-    requires ranges { AreRanges program judged.now }
-    requires kept { IsKeptHead (limits_with program depth 0) head }
+    requires sound { Sound part.plant.now }
+    requires part { IsPartOf part.plant.now part.program }
+    requires ranges { AreRanges part.program judged.now }
+    requires kept { IsKeptHead (limits_with part.program part.depth 0) head }
     requires allowed { IsTrue (F.may_read files.old name.now) }
     ensures verdict { IfOk result (λ verdict. IfSome (F.files files.old)
-        (λ m. IsHeadVerdict plant.now program judged.now depth (file_of m name.now) head verdict)) }
-    ensures says { IfOk result (YesSaysOf plant.now program) }
-    ensures fault { result ≡ Err CheckStop.Fault → Rose (F.read_faults files.old) (F.read_faults files.new) }
+        (λ m. IsHeadVerdict part.entry.plant.now part.entry.program judged.now part.entry.depth
+        (file_of m name.now) head verdict)) }
+    ensures says { IfOk result (YesSaysOf part.entry.plant.now part.entry.program) }
+    ensures fault { result ≡ Err CheckStop.Fault
+        → Rose (F.read_faults files.old) (F.read_faults files.new) }
     ensures frame { OnlyReads F.Shelf files.old files.new }
 {
-    let limits = limits_with(&program, depth, head.sums.len());
-    match read_setups(alloc, plant, &limits, head, files, name)? {
+    let limits = limits_with(&part.program, part.depth, head.sums.len());
+    match read_setups(alloc, part.plant, &limits, head, files, name)? {
         SetupFront::Bad(defect) => Ok(LogVerdict::No(defect)),
-        SetupFront::Whole(setups) => {
-            check_set_up(alloc, plant, program, judged, depth, &setups, files, name)
-        }
+        SetupFront::Whole(setups) => check_set_up(alloc, part, judged, &setups, files, name),
     }
 }
 
 // Checks what follows the setups of a head.
 fn check_set_up<F: Shelf>(
     alloc: Global,
-    plant: &Plant,
-    program: Program,
+    part: CheckedPart,
     judged: &[Domain],
-    depth: u32,
     setups: &Setups,
     files: &mut F,
     name: &str,
 ) -> Result<LogVerdict, CheckStop>
-    requires sound { Sound plant.now }
-    requires part { IsPartOf plant.now program }
-    requires ranges { AreRanges program judged.now }
-    requires held { IsHeadHeld plant.now program depth setups.now }
+    requires sound { Sound part.plant.now }
+    requires part { IsPartOf part.plant.now part.program }
+    requires ranges { AreRanges part.program judged.now }
+    requires held { IsHeadHeld part.plant.now part.program part.depth setups.now }
     requires allowed { IsTrue (F.may_read files.old name.now) }
     ensures verdict { IfOk result (λ verdict. IfSome (F.files files.old)
-        (λ m. IsSetUpVerdict plant.now program judged.now depth (file_of m name.now) setups.now verdict)) }
-    ensures says { IfOk result (YesSaysOf plant.now program) }
-    ensures fault { result ≡ Err CheckStop.Fault → Rose (F.read_faults files.old) (F.read_faults files.new) }
+        (λ m. IsSetUpVerdict part.entry.plant.now part.entry.program judged.now part.entry.depth
+        (file_of m name.now) setups.now verdict)) }
+    ensures says { IfOk result (YesSaysOf part.entry.plant.now part.entry.program) }
+    ensures fault { result ≡ Err CheckStop.Fault
+        → Rose (F.read_faults files.old) (F.read_faults files.new) }
     ensures frame { OnlyReads F.Shelf files.old files.new }
 {
     match read_tail(alloc, &setups.limits, &setups.head, files, name)? {
         TailFront::Bad(defect) => Ok(LogVerdict::No(defect)),
-        TailFront::Whole(tail) => {
-            check_tailed(
-                alloc, plant, program, judged, depth, setups, &tail, files, name,
-            )
-        }
+        TailFront::Whole(tail) => check_tailed(alloc, part, judged, setups, &tail, files, name),
     }
 }
 
 // Checks what follows a head, its setups and its derivations.
 fn check_tailed<F: Shelf>(
     alloc: Global,
-    plant: &Plant,
-    program: Program,
+    part: CheckedPart,
     judged: &[Domain],
-    depth: u32,
     setups: &Setups,
     tail: &Tail,
     files: &mut F,
     name: &str,
 ) -> Result<LogVerdict, CheckStop>
-    requires sound { Sound plant.now }
-    requires part { IsPartOf plant.now program }
-    requires ranges { AreRanges program judged.now }
-    requires held { IsHeadHeld plant.now program depth setups.now }
+    requires sound { Sound part.plant.now }
+    requires part { IsPartOf part.plant.now part.program }
+    requires ranges { AreRanges part.program judged.now }
+    requires held { IsHeadHeld part.plant.now part.program part.depth setups.now }
     requires tailed { IsTailHeld setups.now.limits setups.now.head tail.now }
     requires allowed { IsTrue (F.may_read files.old name.now) }
     ensures verdict { IfOk result (λ verdict. IfSome (F.files files.old)
-        (λ m. IsTailVerdict plant.now program judged.now depth (file_of m name.now) setups.now
-        (Whole tail.now) verdict)) }
-    ensures says { IfOk result (YesSaysOf plant.now program) }
-    ensures fault { result ≡ Err CheckStop.Fault → Rose (F.read_faults files.old) (F.read_faults files.new) }
+        (λ m. IsTailVerdict part.entry.plant.now part.entry.program judged.now part.entry.depth
+        (file_of m name.now) setups.now (Whole tail.now) verdict)) }
+    ensures says { IfOk result (YesSaysOf part.entry.plant.now part.entry.program) }
+    ensures fault { result ≡ Err CheckStop.Fault
+        → Rose (F.read_faults files.old) (F.read_faults files.new) }
     ensures frame { OnlyReads F.Shelf files.old files.new }
 {
+    let CheckedPart {
+        plant,
+        program,
+        depth,
+    } = part;
     let slots = program.root.len();
     let limits = limits_behind(setups, tail);
     let version = setups.head.version;
@@ -229,7 +236,8 @@ fn check_text<F: Shelf>(
         (λ m. verdict ≡ No (unshown_defect tail.now.count unshown.line unshown.kind
         (log_text_defect limits (behind version tail.now.bytes (file_of m name.now)))))) }
     ensures says { (plant : Plant) (program : Program) → IfOk result (YesSaysOf plant program) }
-    ensures fault { result ≡ Err CheckStop.Fault → Rose (F.read_faults files.old) (F.read_faults files.new) }
+    ensures fault { result ≡ Err CheckStop.Fault
+        → Rose (F.read_faults files.old) (F.read_faults files.new) }
     ensures frame { OnlyReads F.Shelf files.old files.new }
 {
     match first_defect(alloc, limits, version, tail.bytes, files, name)? {

@@ -49,42 +49,15 @@ pub fn judge_head(
     ensures { IfOk result (IsJudged plant.now program judged.now setups.now tail.now) }
 {
     let head = &setups.head;
-    match first_unshown(
-        &program,
-        judged,
-        head.sums.as_slice(),
-        head.lines.as_slice(),
-    ) {
-        Some(line) => {
-            let kind = SUM_RANGE;
-            Ok(Err(Defect { line, kind }))
-        }
-        None => judge_setups(alloc, plant, program, depth, judged, setups, tail),
+    let sums = head.sums.as_slice();
+    if let Some(line) = first_unshown(&program, judged, sums, head.lines.as_slice()) {
+        let kind = SUM_RANGE;
+        return Ok(Err(Defect { line, kind }));
     }
-}
-
-// The same of a head whose sums are shown.
-fn judge_setups(
-    alloc: Global,
-    plant: &Plant,
-    program: Program,
-    depth: u32,
-    judged: &[Domain],
-    setups: &Setups,
-    tail: &Tail,
-) -> Result<Result<Rows, Defect>, AllocError>
-    requires sound { Sound plant.now }
-    requires part { IsPartOf plant.now program }
-    requires ranges { AreRanges program judged.now }
-    requires held { IsHeadHeld plant.now program depth setups.now }
-    requires tailed { IsTailHeld setups.now.limits setups.now.head tail.now }
-    requires shown { All (IsShown program judged.now) setups.now.head.sums }
-    ensures { IfOk result (IsJudged plant.now program judged.now setups.now tail.now) }
-{
     let slots = program.root.len();
-    let between = with_sums(alloc, program, judged, setups.head.sums.as_slice())?;
+    let between = with_sums(alloc, program, judged, sums)?;
     let wide = set_up_all(alloc, plant, between, setups.units.as_slice())?;
-    if setups.head.version == 3 {
+    if head.version == 3 {
         return Ok(Ok(rows_with(wide)));
     }
     let domains = joined(alloc, judged, &wide.program.root.as_slice()[slots..])?;

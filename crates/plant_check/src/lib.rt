@@ -19,7 +19,7 @@ mod tail;
 mod unshown;
 
 pub use bytes::check_bytes;
-pub use check::check_any;
+pub use check::{CheckedPart, check_any};
 pub use given::{given_claim, in_file};
 pub use head::judge_head;
 pub use limits::{limits_behind, limits_with, plant_limits};

@@ -9,7 +9,7 @@ ghost use Rattle.valid_log.specs.Claims.{YesSays, YesSaysOf};
 ghost use Rattle.valid_log.specs.PlantLogs.{IsAnyChecked, IsAnyKeptChecked, IsAnyPartChecked};
 ghost use Rattle.store_frames.specs.Frames.{OnlyReads};
 
-use crate::check::check_any;
+use crate::check::{CheckedPart, check_any};
 use log_check::CheckStop;
 use row_kit::{List, Program};
 use row_set::{plant_root, program_of};
@@ -34,14 +34,20 @@ pub fn check_stream<F: Shelf>(
 
     // What the claim of a yes says holds of all plans, whether the files are told or not.
     ensures says { IfOk result (YesSays plant.now) }
-    ensures fault { result ≡ Err CheckStop.Fault → Rose (F.read_faults files.old) (F.read_faults files.new) }
+    ensures fault { result ≡ Err CheckStop.Fault
+        → Rose (F.read_faults files.old) (F.read_faults files.new) }
     ensures frame { OnlyReads F.Shelf files.old files.new }
 {
     let program = whole_program(alloc, plant)?;
     let ranges = plant_root(alloc, plant)?;
     let ranges = ranges.as_slice();
     let depth = depth_limit(plant);
-    check_any(alloc, plant, program, ranges, ranges, depth, files, name)
+    let all = CheckedPart {
+        plant,
+        program,
+        depth,
+    };
+    check_any(alloc, all, ranges, ranges, files, name)
 }
 
 // The program of a plant.
@@ -73,12 +79,18 @@ pub fn check_part<F: Shelf>(
 
     // What the claim of a yes says holds of all admitted plans, whether the files are told or not.
     ensures says { IfOk result (YesSaysOf plant.now part) }
-    ensures fault { result ≡ Err CheckStop.Fault → Rose (F.read_faults files.old) (F.read_faults files.new) }
+    ensures fault { result ≡ Err CheckStop.Fault
+        → Rose (F.read_faults files.old) (F.read_faults files.new) }
     ensures frame { OnlyReads F.Shelf files.old files.new }
 {
     let whole = plant_root(alloc, plant)?;
     let ranges = whole.as_slice();
-    check_any(alloc, plant, part, ranges, ranges, depth, files, name)
+    let part = CheckedPart {
+        plant,
+        program: part,
+        depth,
+    };
+    check_any(alloc, part, ranges, ranges, files, name)
 }
 
 /// Checks the log of any version in a file against the choices that kept starts leave, as `check_part` checks one against a part:
@@ -100,19 +112,16 @@ pub fn check_kept<F: Shelf>(
 
     // What the claim of a yes says holds of all admitted plans, whether the files are told or not.
     ensures says { IfOk result (YesSaysOf plant.now part) }
-    ensures fault { result ≡ Err CheckStop.Fault → Rose (F.read_faults files.old) (F.read_faults files.new) }
+    ensures fault { result ≡ Err CheckStop.Fault
+        → Rose (F.read_faults files.old) (F.read_faults files.new) }
     ensures frame { OnlyReads F.Shelf files.old files.new }
 {
     let ranges = plant_root(alloc, plant)?;
     let root = List::from_slice(alloc, part.root.as_slice())?;
-    check_any(
-        alloc,
+    let part = CheckedPart {
         plant,
-        part,
-        ranges.as_slice(),
-        root.as_slice(),
+        program: part,
         depth,
-        files,
-        name,
-    )
+    };
+    check_any(alloc, part, ranges.as_slice(), root.as_slice(), files, name)
 }

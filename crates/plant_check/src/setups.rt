@@ -36,7 +36,8 @@ pub fn read_setups<F: Shelf>(
     ensures stands { IfOk result (λ front. IfSome (F.files files.old)
         (λ m. AreSetups limits.now (setup_sizes plant.now) head (file_of m name.now) front)) }
     ensures held { IfOk result (AreSetupsHeld limits.now (setup_sizes plant.now) head) }
-    ensures fault { result ≡ Err CheckStop.Fault → Rose (F.read_faults files.old) (F.read_faults files.new) }
+    ensures fault { result ≡ Err CheckStop.Fault
+        → Rose (F.read_faults files.old) (F.read_faults files.new) }
     ensures frame { OnlyReads F.Shelf files.old files.new }
 {
     if head.version == 3 {

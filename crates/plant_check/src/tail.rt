@@ -32,7 +32,8 @@ pub fn read_tail<F: Shelf>(
     ensures follows { IfOk result (λ tail. IfSome (F.files files.old)
         (λ m. IsTail limits.now head.now (file_of m name.now) tail)) }
     ensures held { IfOk result (IsFrontHeld limits.now head.now) }
-    ensures fault { result ≡ Err CheckStop.Fault → Rose (F.read_faults files.old) (F.read_faults files.new) }
+    ensures fault { result ≡ Err CheckStop.Fault
+        → Rose (F.read_faults files.old) (F.read_faults files.new) }
     ensures frame { OnlyReads F.Shelf files.old files.new }
 {
     if head.version == 3 {

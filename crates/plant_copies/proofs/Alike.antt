@@ -40,6 +40,8 @@ draw_sound a b duration draw same sound = record {
 pub task_sound : (a b : Plant) (task : Task) → AreAlike a b → SoundTask b task → SoundTask a task
 task_sound a b task same sound = record {
   name = sound.name;
+  label = sound.label;
+  colour = sound.colour;
   quantum = sound.quantum;
   inputs = sound.inputs;
   outputs = sound.outputs;

@@ -37,6 +37,7 @@ pub fn plant_copy(alloc: Global, plant: &Plant) -> Result<Plant, AllocError>
     Ok(Plant {
         large: plant.large,
         periods: plant.periods,
+        calendar: plant.calendar,
         states: states(alloc, plant.states.as_slice())?,
         utilities: utilities(alloc, plant.utilities.as_slice())?,
         units: units(alloc, plant.units.as_slice())?,
@@ -66,6 +67,7 @@ pub fn state_copy(alloc: Global, state: &State) -> Result<State, AllocError>
 {
     Ok(State {
         name: copied(alloc, state.name.as_slice())?,
+        label: copied(alloc, state.label.as_slice())?,
         initial: state.initial,
         limits: copied(alloc, state.limits.as_slice())?,
         price: state.price,
@@ -90,6 +92,7 @@ pub fn utility_copy(alloc: Global, utility: &Utility) -> Result<Utility, AllocEr
 {
     Ok(Utility {
         name: copied(alloc, utility.name.as_slice())?,
+        label: copied(alloc, utility.label.as_slice())?,
         limits: copied(alloc, utility.limits.as_slice())?,
         rate: utility.rate,
         rates: copied(alloc, utility.rates.as_slice())?,
@@ -113,6 +116,7 @@ pub fn unit_copy(alloc: Global, unit: &StnUnit) -> Result<StnUnit, AllocError>
 {
     Ok(StnUnit {
         name: copied(alloc, unit.name.as_slice())?,
+        label: copied(alloc, unit.label.as_slice())?,
         last: unit.last,
     })
 }
@@ -134,6 +138,8 @@ fn task_copy(alloc: Global, task: &Task) -> Result<Task, AllocError>
 {
     Ok(Task {
         name: copied(alloc, task.name.as_slice())?,
+        label: copied(alloc, task.label.as_slice())?,
+        colour: copied(alloc, task.colour.as_slice())?,
         quantum: task.quantum,
         inputs: copied(alloc, task.inputs.as_slice())?,
         outputs: copied(alloc, task.outputs.as_slice())?,

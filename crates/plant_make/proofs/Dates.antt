@@ -1,5 +1,6 @@
--- The document of a plant has no date, and so none that can't be printed.
+-- The document of a plant has no date but the start of its calendar, and that one can be printed.
 use Rattle.std.proofs.Common.{◌≡◌, ℕ, ℤ, pos, Bool, true, false, cond, eqb, List, [], ◌∷◌, length, map, Option, Some, None, option_map, Ordering, Less, Equal, Greater, nat_cmp, refl}
+use Rattle.std.specs.Prelude.{IfSome}
 use Rattle.std.specs.Cmp.Lexicographic.{slice_cmp}
 use Rattle.std.specs.List.{fold, AllByRecursion}
 use Rattle.std.specs.Ordering.{match_ordering, int_eq}
@@ -7,6 +8,7 @@ use Rattle.std.proofs.lemmas.Bool.{and_parts}
 use Rattle.toml.specs.Data.{Data, integer, Members, no_members, member, has_valid_dates, items_have_valid_dates, members_have_valid_dates}
 use Rattle.toml.specs.View.{items_of}
 use Rattle.stn_model.specs.declared.plant.Plant.{Plant}
+use Rattle.stn_model.specs.declared.plant.Calendar.{Calendar}
 use Rattle.stn_model.specs.declared.plant.State.{State}
 use Rattle.stn_model.specs.declared.plant.Utility.{Utility}
 use Rattle.stn_model.specs.declared.plant.StnUnit.{StnUnit}
@@ -20,10 +22,12 @@ use Rattle.stn_model.specs.declared.plant.Gap.{Gap}
 use Rattle.stn_model.specs.declared.plant.Receipt.{Receipt}
 use Rattle.stn_model.specs.declared.plant.Delivery.{Delivery}
 use Rattle.stn_model.specs.declared.plant.Outage.{Outage}
+use Rattle.stn_model.specs.Labels.{SoundCalendar}
 use Rattle.plant_text.specs.Words.{key_word}
-use Rattle.plant_make.specs.Entries.{Entry, with_member, with_entry, table_of, number, numbers, some_items}
+use Rattle.plant_make.specs.Entries.{Entry, with_member, with_entry, table_of, number, numbers, some_text, some_items}
 use Rattle.plant_make.specs.Numbers.{lone, several}
-use Rattle.plant_make.specs.Printed.{made_of, last_name, until_of, state_entries, utility_entries, unit_entries, input_entries, output_entries, draw_entries, task_entries, run_entries, gap_entries, receipt_entries, delivery_entries, outage_entries, plant_entries}
+use Rattle.plant_make.specs.Printed.{made_of, start_of, minutes_of, last_name, until_of, state_entries, utility_entries, unit_entries, input_entries, output_entries, draw_entries, task_entries, run_entries, gap_entries, receipt_entries, delivery_entries, outage_entries, plant_entries}
+use Rattle.plant_make.proofs.Labels.{moment_valid}
 
 -- what is held can be printed
 abbrev Plain : Data → Type 0
@@ -82,6 +86,10 @@ lone_plain : (o : Option ℕ) → HeldPlain (option_map number o)
 lone_plain None = tt
 lone_plain (Some n) = refl
 
+text_plain : (text : List ℕ) → HeldPlain (some_text text)
+text_plain [] = tt
+text_plain (byte ∷ text) = refl
+
 several_plain : (o : Option (List ℕ)) → HeldPlain (option_map numbers o)
 several_plain None = tt
 several_plain (Some ns) = list_plain ns
@@ -94,11 +102,11 @@ maybe_plain false x = tt
 
 state_plain : (state : State) → Plain (made_of (state_entries state))
 unfolding state_entries
-state_plain state = made_plain (state_entries state) (refl, (refl, (lone_plain (lone state.limits), (several_plain (several state.limits), (refl, (refl, tt))))))
+state_plain state = made_plain (state_entries state) (refl, (text_plain state.label, (refl, (lone_plain (lone state.limits), (several_plain (several state.limits), (refl, (refl, tt)))))))
 
 utility_plain : (utility : Utility) → Plain (made_of (utility_entries utility))
 unfolding utility_entries
-utility_plain utility = made_plain (utility_entries utility) (refl, (lone_plain (lone utility.limits), (several_plain (several utility.limits), (maybe_plain (eqb (length utility.rates) 0) utility.rate, (some_plain integer (λ x. refl) utility.rates, tt)))))
+utility_plain utility = made_plain (utility_entries utility) (refl, (text_plain utility.label, (lone_plain (lone utility.limits), (several_plain (several utility.limits), (maybe_plain (eqb (length utility.rates) 0) utility.rate, (some_plain integer (λ x. refl) utility.rates, tt))))))
 
 last_plain : (plant : Plant) (last : Option Last) → HeldPlain (last_name plant last)
 last_plain plant None = tt
@@ -114,7 +122,7 @@ until_plain (Some last) = by_test (int_eq last.until (pos 0))
 
 unit_plain : (plant : Plant) (unit : StnUnit) → Plain (made_of (unit_entries plant unit))
 unfolding unit_entries
-unit_plain plant unit = made_plain (unit_entries plant unit) (refl, (last_plain plant unit.last, (until_plain unit.last, tt)))
+unit_plain plant unit = made_plain (unit_entries plant unit) (refl, (text_plain unit.label, (last_plain plant unit.last, (until_plain unit.last, tt))))
 
 input_plain : (plant : Plant) (quantum : ℕ) (input : Input) → Plain (made_of (input_entries plant quantum input))
 unfolding input_entries
@@ -152,33 +160,41 @@ task_plain : (plant : Plant) (task : Task) → Plain (made_of (task_entries plan
 unfolding task_entries
 task_plain plant task =
     made_plain (task_entries plant task)
-    (refl, (refl, (some_plain _ (input_plain plant task.quantum) task.inputs, (some_plain _ (output_plain plant task.quantum) task.outputs, (some_plain _ (draw_plain plant) task.draws, tt)))))
+    (refl, (text_plain task.label, (text_plain task.colour, (refl, (some_plain _ (input_plain plant task.quantum) task.inputs, (some_plain _ (output_plain plant task.quantum) task.outputs, (some_plain _ (draw_plain plant) task.draws, tt)))))))
 
--- no date stands in the document of a plant
-pub document_plain : (plant : Plant) → members_have_valid_dates (table_of (plant_entries plant)) ≡ true
+start_plain : (calendar : Option Calendar) → IfSome calendar SoundCalendar → HeldPlain (start_of calendar)
+start_plain None sound = tt
+start_plain (Some calendar) sound = moment_valid calendar.start sound.start
+
+minutes_plain : (calendar : Option Calendar) → HeldPlain (minutes_of calendar)
+minutes_plain None = tt
+minutes_plain (Some calendar) = refl
+
+-- each date in the document of a plant can be printed
+pub document_plain : (plant : Plant) → IfSome plant.calendar SoundCalendar → members_have_valid_dates (table_of (plant_entries plant)) ≡ true
 unfolding plant_entries
-document_plain plant =
+document_plain plant sound =
     table_plain (plant_entries plant) (
       refl,
       (
         refl,
         (
-          some_plain _ state_plain plant.states,
+          start_plain plant.calendar sound,
           (
-            some_plain _ utility_plain plant.utilities,
+            minutes_plain plant.calendar,
             (
-              some_plain _ (unit_plain plant) plant.units,
+              some_plain _ state_plain plant.states,
               (
-                some_plain _ (task_plain plant) plant.tasks,
+                some_plain _ utility_plain plant.utilities,
                 (
-                  some_plain _ (run_plain plant) plant.runs,
+                  some_plain _ (unit_plain plant) plant.units,
                   (
-                    some_plain _ (gap_plain plant) plant.gaps,
+                    some_plain _ (task_plain plant) plant.tasks,
                     (
-                      some_plain _ (receipt_plain plant) plant.receipts,
+                      some_plain _ (run_plain plant) plant.runs,
                       (
-                        some_plain _ (delivery_plain plant) plant.deliveries,
-                        (some_plain _ (outage_plain plant) plant.outages, tt),
+                        some_plain _ (gap_plain plant) plant.gaps,
+                        (some_plain _ (receipt_plain plant) plant.receipts, (some_plain _ (delivery_plain plant) plant.deliveries, (some_plain _ (outage_plain plant) plant.outages, tt))),
                       ),
                     ),
                   ),

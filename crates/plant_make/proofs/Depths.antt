@@ -5,6 +5,7 @@ use Rattle.std.specs.Ordering.{int_eq}
 use Rattle.toml.specs.Data.{Data, integer, depth, items_depth, members_depth}
 use Rattle.toml.specs.View.{items_of}
 use Rattle.stn_model.specs.declared.plant.Plant.{Plant}
+use Rattle.stn_model.specs.declared.plant.Calendar.{Calendar}
 use Rattle.stn_model.specs.declared.plant.State.{State}
 use Rattle.stn_model.specs.declared.plant.Utility.{Utility}
 use Rattle.stn_model.specs.declared.plant.StnUnit.{StnUnit}
@@ -18,9 +19,9 @@ use Rattle.stn_model.specs.declared.plant.Gap.{Gap}
 use Rattle.stn_model.specs.declared.plant.Receipt.{Receipt}
 use Rattle.stn_model.specs.declared.plant.Delivery.{Delivery}
 use Rattle.stn_model.specs.declared.plant.Outage.{Outage}
-use Rattle.plant_make.specs.Entries.{Entry, table_of, number, numbers, some_items}
+use Rattle.plant_make.specs.Entries.{Entry, table_of, number, numbers, some_text, some_items}
 use Rattle.plant_make.specs.Numbers.{lone, several}
-use Rattle.plant_make.specs.Printed.{made_of, last_name, until_of, state_entries, utility_entries, unit_entries, input_entries, output_entries, draw_entries, task_entries, run_entries, gap_entries, receipt_entries, delivery_entries, outage_entries, plant_entries}
+use Rattle.plant_make.specs.Printed.{made_of, start_of, minutes_of, last_name, until_of, state_entries, utility_entries, unit_entries, input_entries, output_entries, draw_entries, task_entries, run_entries, gap_entries, receipt_entries, delivery_entries, outage_entries, plant_entries}
 use Rattle.plant_make.proofs.Tables.{Shallow, held_depth, depth_of_entries}
 
 items_low : (n : ℕ) (ds : List Data) → AllByRecursion (λ d. depth d ≤ n) ds → items_depth (items_of ds) ≤ n
@@ -37,6 +38,10 @@ list_low ns = omega (arith, items_low 0 (map number ns) (numbers_low ns))
 lone_low : (o : Option ℕ) → held_depth (option_map number o) ≤ 1
 lone_low None = omega arith
 lone_low (Some n) = omega arith
+
+text_low : (n : ℕ) (text : List ℕ) → held_depth (some_text text) ≤ n
+text_low n [] = omega arith
+text_low n (byte ∷ text) = omega arith
 
 several_low : (o : Option (List ℕ)) → held_depth (option_map numbers o) ≤ 1
 several_low None = omega arith
@@ -66,11 +71,11 @@ maybe_low false x = omega arith
 
 state_low : (state : State) → depth (made_of (state_entries state)) ≤ 2
 unfolding state_entries
-state_low state = made_low 1 (state_entries state) (zero_low, (zero_low, (lone_low (lone state.limits), (several_low (several state.limits), (zero_low, (zero_low, tt))))))
+state_low state = made_low 1 (state_entries state) (zero_low, (text_low 1 state.label, (zero_low, (lone_low (lone state.limits), (several_low (several state.limits), (zero_low, (zero_low, tt)))))))
 
 utility_low : (utility : Utility) → depth (made_of (utility_entries utility)) ≤ 2
 unfolding utility_entries
-utility_low utility = made_low 1 (utility_entries utility) (zero_low, (lone_low (lone utility.limits), (several_low (several utility.limits), (maybe_low (eqb (length utility.rates) 0) utility.rate, (some_low 0 _ (rows_low integer 0 (λ x. none_deep) utility.rates), tt)))))
+utility_low utility = made_low 1 (utility_entries utility) (zero_low, (text_low 1 utility.label, (lone_low (lone utility.limits), (several_low (several utility.limits), (maybe_low (eqb (length utility.rates) 0) utility.rate, (some_low 0 _ (rows_low integer 0 (λ x. none_deep) utility.rates), tt))))))
 
 last_low : (plant : Plant) (last : Option Last) → held_depth (last_name plant last) ≤ 1
 last_low plant None = omega arith
@@ -86,7 +91,7 @@ until_low (Some last) = by_test (int_eq last.until (pos 0))
 
 unit_low : (plant : Plant) (unit : StnUnit) → depth (made_of (unit_entries plant unit)) ≤ 2
 unfolding unit_entries
-unit_low plant unit = made_low 1 (unit_entries plant unit) (zero_low, (last_low plant unit.last, (until_low unit.last, tt)))
+unit_low plant unit = made_low 1 (unit_entries plant unit) (zero_low, (text_low 1 unit.label, (last_low plant unit.last, (until_low unit.last, tt))))
 
 input_low : (plant : Plant) (quantum : ℕ) (input : Input) → depth (made_of (input_entries plant quantum input)) ≤ 2
 unfolding input_entries
@@ -126,12 +131,15 @@ task_low plant task =
     made_low 3 (task_entries plant task) (
       omega arith,
       (
-        omega arith,
+        text_low 3 task.label,
         (
-          some_low 2 _ (rows_low _ 2 (input_low plant task.quantum) task.inputs),
+          text_low 3 task.colour,
           (
-            some_low 2 _ (rows_low _ 2 (output_low plant task.quantum) task.outputs),
-            (some_low 2 _ (rows_low _ 2 (draw_low plant) task.draws), tt),
+            omega arith,
+            (
+              some_low 2 _ (rows_low _ 2 (input_low plant task.quantum) task.inputs),
+              (some_low 2 _ (rows_low _ 2 (output_low plant task.quantum) task.outputs), (some_low 2 _ (rows_low _ 2 (draw_low plant) task.draws), tt)),
+            ),
           ),
         ),
       ),
@@ -140,6 +148,14 @@ task_low plant task =
 -- two levels for small records, where there is room for four
 four : (d : Data) → depth d ≤ 2 → depth d ≤ 4
 four d low = omega arith
+
+start_low : (calendar : Option Calendar) → held_depth (start_of calendar) ≤ 5
+start_low None = omega arith
+start_low (Some calendar) = omega arith
+
+minutes_low : (calendar : Option Calendar) → held_depth (minutes_of calendar) ≤ 5
+minutes_low None = omega arith
+minutes_low (Some calendar) = omega arith
 
 -- five levels below the top
 pub document_low : (plant : Plant) → members_depth (table_of (plant_entries plant)) ≤ 5
@@ -150,22 +166,28 @@ document_low plant =
       (
         omega arith,
         (
-          some_low 4 _ (rows_low _ 4 (λ state. four (made_of (state_entries state)) (state_low state)) plant.states),
+          start_low plant.calendar,
           (
-            some_low 4 _ (rows_low _ 4 (λ utility. four (made_of (utility_entries utility)) (utility_low utility)) plant.utilities),
+            minutes_low plant.calendar,
             (
-              some_low 4 _ (rows_low _ 4 (λ unit. four (made_of (unit_entries plant unit)) (unit_low plant unit)) plant.units),
+              some_low 4 _ (rows_low _ 4 (λ state. four (made_of (state_entries state)) (state_low state)) plant.states),
               (
-                some_low 4 _ (rows_low _ 4 (task_low plant) plant.tasks),
+                some_low 4 _ (rows_low _ 4 (λ utility. four (made_of (utility_entries utility)) (utility_low utility)) plant.utilities),
                 (
-                  some_low 4 _ (rows_low _ 4 (λ run. four (made_of (run_entries plant run)) (run_low plant run)) plant.runs),
+                  some_low 4 _ (rows_low _ 4 (λ unit. four (made_of (unit_entries plant unit)) (unit_low plant unit)) plant.units),
                   (
-                    some_low 4 _ (rows_low _ 4 (λ gap. four (made_of (gap_entries plant gap)) (gap_low plant gap)) plant.gaps),
+                    some_low 4 _ (rows_low _ 4 (task_low plant) plant.tasks),
                     (
-                      some_low 4 _ (rows_low _ 4 (λ receipt. four (made_of (receipt_entries plant receipt)) (receipt_low plant receipt)) plant.receipts),
+                      some_low 4 _ (rows_low _ 4 (λ run. four (made_of (run_entries plant run)) (run_low plant run)) plant.runs),
                       (
-                        some_low 4 _ (rows_low _ 4 (λ delivery. four (made_of (delivery_entries plant delivery)) (delivery_low plant delivery)) plant.deliveries),
-                        (some_low 4 _ (rows_low _ 4 (λ outage. four (made_of (outage_entries plant outage)) (outage_low plant outage)) plant.outages), tt),
+                        some_low 4 _ (rows_low _ 4 (λ gap. four (made_of (gap_entries plant gap)) (gap_low plant gap)) plant.gaps),
+                        (
+                          some_low 4 _ (rows_low _ 4 (λ receipt. four (made_of (receipt_entries plant receipt)) (receipt_low plant receipt)) plant.receipts),
+                          (
+                            some_low 4 _ (rows_low _ 4 (λ delivery. four (made_of (delivery_entries plant delivery)) (delivery_low plant delivery)) plant.deliveries),
+                            (some_low 4 _ (rows_low _ 4 (λ outage. four (made_of (outage_entries plant outage)) (outage_low plant outage)) plant.outages), tt),
+                          ),
+                        ),
                       ),
                     ),
                   ),

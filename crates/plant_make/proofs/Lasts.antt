@@ -13,7 +13,7 @@ use Rattle.stn_model.specs.Plant.{task_at}
 use Rattle.plant_text.specs.declared.fault.Place.{Place}
 use Rattle.plant_text.specs.declared.find.Key.{Key}
 use Rattle.plant_text.specs.Tests.{first_fault}
-use Rattle.plant_text.specs.Fields.{Places, mentions, moment, is_between, integer_of, place_of, value_tests, kind_tests}
+use Rattle.plant_text.specs.Fields.{Places, mentions, time, is_between, integer_of, place_of, value_tests, kind_tests}
 use Rattle.plant_text.specs.Tables.{is_stray}
 use Rattle.plant_make.specs.Printed.{last_name, until_of}
 use Rattle.plant_make.proofs.Passing.{Pass, absent_ok}
@@ -31,13 +31,13 @@ between low high z early late =
     rw (first, second) refl
 
 -- and its end that of the other, with which it stands
-pub moment_ok : (place : Place) (key : Key) (alone : Bool) (low high : ℤ) (last : Option Last) (o : Option Data) → o ≡ until_of last → key.required ≡ false
-    → IfSome last (λ batch. (alone ≡ false) × (low ≤ℤ batch.until) × (batch.until ≤ℤ high)) → Pass (value_tests place key (moment alone low high) o)
+pub time_ok : (place : Place) (key : Key) (alone : Bool) (low high : ℤ) (last : Option Last) (o : Option Data) → o ≡ until_of last → key.required ≡ false
+    → IfSome last (λ batch. (alone ≡ false) × (low ≤ℤ batch.until) × (batch.until ≤ℤ high)) → Pass (value_tests place key (time alone low high) o)
 unfolding value_tests kind_tests first_fault
-moment_ok place key alone low high None o is free kept = absent_ok place key o (moment alone low high) is free
-moment_ok place key alone low high (Some last) o is free kept =
+time_ok place key alone low high None o is free kept = absent_ok place key o (time alone low high) is free
+time_ok place key alone low high (Some last) o is free kept =
     elim (cases_Bool (int_eq last.until (pos 0))) [
-      | inl zero ↦ absent_ok place key o (moment alone low high) (is ∙ rw zero refl) free
+      | inl zero ↦ absent_ok place key o (time alone low high) (is ∙ rw zero refl) free
       | inr other ↦
           let there : o ≡ Some (integer last.until) = is ∙ rw other refl in
           rw (there, between low high last.until kept.1 kept.2, kept.0) refl

@@ -8,6 +8,7 @@ pub mod Lists
 pub mod Limits
 pub mod Rates
 pub mod Lasts
+pub mod Labels
 pub mod Reading
 pub mod TaskReading
 pub mod PlantReading

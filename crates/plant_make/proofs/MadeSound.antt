@@ -1,5 +1,6 @@
 -- The plants that are made are sound.
-use Rattle.std.proofs.Common.{◌≡◌, ◌≢◌, ℕ, zero, suc, ◌+◌, ◌*◌, ◌<◌, ◌≤◌, ◌&&◌, nat_le, eqb, Bool, true, false, not, cond, List, [], ◌∷◌, ◌++◌, map, length, replicate, None, All, AllPairs, IsTrue, length-append, refl, sym, subst, ◌∙◌, inl, inr, arith}
+use Rattle.std.proofs.Common.{◌≡◌, ◌≢◌, ℕ, zero, suc, ◌+◌, ◌*◌, ◌<◌, ◌≤◌, ◌&&◌, nat_le, eqb, Bool, true, false, not, cond, List, [], ◌∷◌, ◌++◌, map, length, replicate, Option, None, All, AllPairs, IsTrue, length-append, refl, sym, subst, ◌∙◌, inl, inr, arith}
+use Rattle.std.specs.Prelude.{IfSome}
 use Rattle.std.specs.List.{AllByRecursion, list_any}
 use Rattle.std.specs.Char.{is_ascii_alphabetic}
 use Rattle.std.specs.Str.{bytes_eq}
@@ -14,10 +15,12 @@ use Rattle.stn_model.specs.declared.plant.State.{State}
 use Rattle.stn_model.specs.declared.plant.Utility.{Utility}
 use Rattle.stn_model.specs.declared.plant.StnUnit.{StnUnit}
 use Rattle.stn_model.specs.declared.plant.Task.{Task}
+use Rattle.stn_model.specs.declared.plant.Calendar.{Calendar}
 use Rattle.stn_model.specs.declared.plant.Run.{Run}
 use Rattle.stn_model.specs.declared.plant.Gap.{Gap}
 use Rattle.stn_model.specs.Plant.{duration_of}
 use Rattle.stn_model.specs.Sound.{Sound, SoundState, SoundUtility, SoundUnit, SoundInput, SoundOutput, SoundDraw, SoundTask, SoundRun, SoundGap, SoundCounts, SmallCounts, SoundNames, IsPart, is_name, is_name_byte}
+use Rattle.stn_model.specs.Labels.{SoundCalendar, Unlabelled}
 use Rattle.plant_make.specs.Made.{number_at, of_chain, letter_name, chained, states_of, second_task, tasks_of, runs_of, units_of, gaps_of, steam_of, plant_made}
 use Rattle.plant_make.proofs.Counts.{AreShort, few_slots, few_pairs}
 use Rattle.plant_make.proofs.Lists.{all_so}
@@ -142,6 +145,7 @@ states_sound seed chain below =
     let earns = taken-below seed (15 * chain + 4) 11 (omega arith) in (
       record {
         name = name_of_letter 70 chain refl digit;
+        label = inl refl;
         initial = omega (arith, stock);
         limits = inl refl;
         limit = λ k d within. absurd (omega arith);
@@ -151,6 +155,7 @@ states_sound seed chain below =
       (
         record {
           name = name_of_letter 73 chain refl digit;
+          label = inl refl;
           initial = omega arith;
           limits = inr refl;
           limit = All-from_recursion (λ n. n ≤ 1000000000) (replicate 13 (20 + 10 * of_chain seed chain 2 5)) (all_repeated 1000000000 (20 + 10 * of_chain seed chain 2 5) 13 (omega (arith, limit)));
@@ -160,6 +165,7 @@ states_sound seed chain below =
         (
           record {
             name = name_of_letter 80 chain refl digit;
+            label = inl refl;
             initial = omega arith;
             limits = inl refl;
             limit = λ k d within. absurd (omega arith);
@@ -186,6 +192,8 @@ tasks_sound plant seed chains chain states utilities below most =
     let lasts = taken-below seed (15 * chain + 6) 2 (omega arith) in (
       record {
         name = name_of_letter 77 chain refl digit;
+        label = inl refl;
+        colour = inl refl;
         quantum = (omega arith, omega arith);
         inputs = (omega arith, omega arith);
         outputs = (omega arith, omega arith);
@@ -205,6 +213,8 @@ tasks_sound plant seed chains chain states utilities below most =
       (
         record {
           name = name_of_letter 75 chain refl digit;
+          label = inl refl;
+          colour = inl refl;
           quantum = (omega arith, omega arith);
           inputs = (omega arith, omega arith);
           outputs = (omega arith, omega arith);
@@ -269,12 +279,33 @@ one_unit unit = refl
 
 units_good : (plant : Plant) (unit : ℕ) → unit < 3 → AllByRecursion (SoundUnit plant) (units_of unit)
 unfolding units_of
-units_good plant unit below = (record { name = name_of_letter 85 unit refl (omega arith); last = tt }, tt)
+units_good plant unit below = (record { name = name_of_letter 85 unit refl (omega arith); label = inl refl; last = tt }, tt)
 
 -- no batch held a unit before
 units_fresh : (unit : ℕ) → unit < 3 → AllByRecursion (λ (u : StnUnit). u.last ≡ None) (units_of unit)
 unfolding units_of
 units_fresh unit below = (refl, tt)
+
+-- nothing has a label or a colour
+states_bare : (seed chain : ℕ) → AllByRecursion (λ (state : State). state.label ≡ []) (states_of seed chain)
+unfolding states_of
+states_bare seed chain = (refl, (refl, (refl, tt)))
+
+units_bare : (unit : ℕ) → AllByRecursion (λ (u : StnUnit). u.label ≡ []) (units_of unit)
+unfolding units_of
+units_bare unit = (refl, tt)
+
+tasks_bare : (seed chain : ℕ) → AllByRecursion (λ (task : Task). task.label ≡ []) (tasks_of seed chain)
+unfolding tasks_of
+tasks_bare seed chain = (refl, (refl, tt))
+
+tasks_grey : (seed chain : ℕ) → AllByRecursion (λ (task : Task). task.colour ≡ []) (tasks_of seed chain)
+unfolding tasks_of
+tasks_grey seed chain = (refl, (refl, tt))
+
+steam_bare : (seed chains : ℕ) → (steam_of seed chains).label ≡ []
+unfolding steam_of
+steam_bare seed chains = refl
 
 steam_sound : (seed chains : ℕ) → SoundUtility 12 (steam_of seed chains)
 unfolding steam_of
@@ -282,6 +313,7 @@ steam_sound seed chains =
     let limit = taken-below seed (15 * chains) 9 (omega arith) in
     record {
       name = refl;
+      label = inl refl;
       limits = refl;
       limit = All-from_recursion (λ n. n ≤ 1000000000) (replicate 12 (12 + number_at seed (15 * chains) 9)) (all_repeated 1000000000 (12 + number_at seed (15 * chains) 9) 12 (omega (arith, limit)));
       rate = omega arith;
@@ -296,6 +328,7 @@ one_rate seed chains = refl
 -- the parts of a plant that is made, by their counts
 record IsMade (seed chains : ℕ) (plant : Plant) : Type 0 where
   periods : plant.periods ≡ 12
+  calendar : plant.calendar ≡ None
   states : plant.states ≡ chained (states_of seed) chains
   utilities : plant.utilities ≡ steam_of seed chains ∷ []
   units : plant.units ≡ chained units_of 3
@@ -308,7 +341,7 @@ record IsMade (seed chains : ℕ) (plant : Plant) : Type 0 where
 
 is_made : (seed chains : ℕ) → IsMade seed chains (plant_made seed chains)
 unfolding plant_made
-is_made seed chains = record { periods = refl; states = refl; utilities = refl; units = refl; tasks = refl; runs = refl; gaps = refl; receipts = refl; deliveries = refl; outages = refl }
+is_made seed chains = record { periods = refl; calendar = refl; states = refl; utilities = refl; units = refl; tasks = refl; runs = refl; gaps = refl; receipts = refl; deliveries = refl; outages = refl }
 
 gaps_few : (chains : ℕ) → length (cond (nat_le 2 chains) (chained gaps_of 3) []) ≤ 6
 unfolding gaps_of
@@ -349,6 +382,16 @@ module _ (seed chains : ℕ) (plant : Plant) (made : IsMade seed chains plant) (
     gap_pairs = omega (arith, few_pairs plant made.periods (omega (arith, runs_long)) gaps_all_short);
   }
 
+  unlabelled : Unlabelled plant
+  unlabelled = record {
+    calendar = made.calendar;
+    states = rw made.states (All-from_recursion (λ (state : State). state.label ≡ []) _ (all_chained (λ (state : State). state.label ≡ []) (states_of seed) chains (λ chain below. states_bare seed chain)));
+    utilities = rw made.utilities (all_of_one (λ (utility : Utility). utility.label ≡ []) _ (steam_bare seed chains));
+    units = rw made.units (All-from_recursion (λ (unit : StnUnit). unit.label ≡ []) _ (all_chained (λ (unit : StnUnit). unit.label ≡ []) units_of 3 (λ unit below. units_bare unit)));
+    tasks = rw made.tasks (All-from_recursion (λ (task : Task). task.label ≡ []) _ (all_chained (λ (task : Task). task.label ≡ []) (tasks_of seed) chains (λ chain below. tasks_bare seed chain)));
+    colours = rw made.tasks (All-from_recursion (λ (task : Task). task.colour ≡ []) _ (all_chained (λ (task : Task). task.colour ≡ []) (tasks_of seed) chains (λ chain below. tasks_grey seed chain)));
+  }
+
   small : SmallCounts plant
   small = record {
     states = omega (arith, states_long);
@@ -364,6 +407,7 @@ module _ (seed chains : ℕ) (plant : Plant) (made : IsMade seed chains plant) (
     rates = rw made.utilities (all_of_one (λ (utility : Utility). utility.rates ≡ []) _ (one_rate seed chains));
     gaps = All-from_recursion (λ (gap : Gap). gap.periods ≤ 96) _ (all_so (λ (gap : Gap). gap.periods ≤ 1) (λ (gap : Gap). gap.periods ≤ 96) (λ gap short. omega arith) plant.gaps gaps_all_short);
     lasts = rw made.units (All-from_recursion (λ (unit : StnUnit). unit.last ≡ None) _ (all_chained (λ (unit : StnUnit). unit.last ≡ None) units_of 3 units_fresh));
+    unlabelled = unlabelled;
   }
 
   names : SoundNames plant
@@ -378,6 +422,7 @@ module _ (seed chains : ℕ) (plant : Plant) (made : IsMade seed chains plant) (
   is_sound : Sound plant
   is_sound = record {
     counts = counts;
+    calendar = subst (λ (calendar : Option Calendar). IfSome calendar SoundCalendar) (sym made.calendar) tt;
     small = λ is. small;
     names = names;
     states = rw (made.periods, made.states) (All-from_recursion (SoundState 12) _ (all_chained (SoundState 12) (states_of seed) chains (λ chain below. states_sound seed chain (omega arith))));

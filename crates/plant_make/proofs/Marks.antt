@@ -1,9 +1,8 @@
 -- A printed document begins with no byte order mark.
-use Rattle.std.proofs.Common.{◌≡◌, ℕ, Bool, true, false, ◌&&◌, ◌||◌, ◌==◌, List, [], ◌∷◌, ◌++◌, codes, refl, arith, append_assoc}
+use Rattle.std.proofs.Common.{◌≡◌, ℕ, Bool, true, false, ◌==◌, List, [], ◌∷◌, ◌++◌, codes, refl, arith, append_assoc}
 use Rattle.std.proofs.lemmas.Bool.Decides.{nat_tests}
 use Rattle.toml_parser.specs.Lexical.{first}
 use Rattle.toml_parser.specs.Strings.{Key}
-use Rattle.toml_writer.specs.Text.{dotted_text}
 use Rattle.toml_writer.proofs.Strings.{is_key_start, key_start-path}
 use Rattle.toml.specs.Data.{Members}
 use Rattle.toml.specs.Tables.{Definition, Expression, key_value, std_table, array_table}

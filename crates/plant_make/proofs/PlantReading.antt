@@ -18,19 +18,21 @@ use Rattle.stn_model.specs.Plant.{no_state, no_utility, no_unit, no_task}
 use Rattle.stn_model.specs.Points.{slot_count, gap_pairs}
 use Rattle.stn_model.specs.Sound.{Sound, SoundState, SoundUtility, SoundUnit, SoundTask, SoundRun, SoundGap, SoundReceipt, SoundDelivery, SoundOutage}
 use Rattle.plant_text.specs.declared.fault.KeyName.TheVariants as key
+use Rattle.plant_text.specs.declared.find.Key.{Key}
 use Rattle.plant_text.specs.Words.{key_word}
 use Rattle.plant_text.specs.Tests.{rows_tests, numbered_tests}
-use Rattle.plant_text.specs.Fields.{held, needed, optional, since, items_of, items_at, at_key, count_of}
+use Rattle.plant_text.specs.Fields.{held, needed, optional, since, beside, items_of, items_at, at_key, count_of}
 use Rattle.plant_text.specs.Names.{name_in, first_places}
 use Rattle.plant_text.specs.Scope.{Scope}
 use Rattle.plant_text.specs.Tables.{has_run, state_tests, state_of, utility_tests, utility_of, unit_tests, unit_of, last_tests, task_tests, task_of, run_tests, run_of, gap_tests, gap_of, receipt_tests, receipt_of, delivery_tests, delivery_of, outage_tests, outage_of}
-use Rattle.plant_text.specs.Document.{is_second, is_third, scope_in, size_fields, named_fields, referring_fields, lasts_tests, plant_with, plant_in, size_tests, unknown_tests, document_tests, top_place}
+use Rattle.plant_text.specs.Document.{is_second, is_third, scope_in, size_fields, has_third, calendar_fields, named_fields, referring_fields, lasts_tests, plant_with, plant_in, size_tests, unknown_tests, document_tests, top_place}
 use Rattle.plant_text.specs.Fields as fields
 use Rattle.plant_text.proofs.Faults.{passes, nothing}
 use Rattle.plant_make.specs.Entries.{table_of, number, some_items}
-use Rattle.plant_make.specs.Printed.{made_of, state_entries, utility_entries, unit_entries, task_entries, run_entries, gap_entries, receipt_entries, delivery_entries, outage_entries, plant_entries}
+use Rattle.plant_make.specs.Printed.{made_of, start_of, minutes_of, state_entries, utility_entries, unit_entries, task_entries, run_entries, gap_entries, receipt_entries, delivery_entries, outage_entries, plant_entries}
 use Rattle.plant_make.proofs.Lists.{IsNext, named_at, rows_read, numbered_read, at_next, map_same, none_any}
-use Rattle.plant_make.proofs.Tables.{held_is, held_maybe, all_known}
+use Rattle.plant_make.proofs.Tables.{AreKnown, held_is, held_maybe, held_since, all_known}
+use Rattle.plant_make.proofs.Labels.{calendar_ok, calendar_back}
 use Rattle.plant_make.proofs.Passing.{Pass, count_ok, maybe_tables_ok, items_back, one_more}
 use Rattle.plant_make.proofs.Reading.{IsScopeOf, state_ok, utility_ok, unit_ok, last_ok, run_ok, gap_ok, receipt_ok, delivery_ok, outage_ok}
 use Rattle.plant_make.proofs.TaskReading.{task_ok}
@@ -137,13 +139,15 @@ module _ (plant : Plant) (sound : Sound plant) where
   states_read =
       rows_read (λ (earlier : List State) (d : Data). state_tests scope (length earlier) d) (state_of scope) state_made plant.states (λ earlier state next.
       state_ok scope plant (length earlier) state reads (at_next (SoundState plant.periods) plant.states earlier state sound.states next)
+      (λ is. at_next (λ (state : State). state.label ≡ []) plant.states earlier state (sound.small is).unlabelled.states next)
       (rw (← next.is no_state) (reads.states (length earlier) next.within)))
 
   utilities_read : Pass (rows_tests (λ (earlier : List Utility) (d : Data). utility_tests scope (length earlier) d) (utility_of scope) [] (map utility_made plant.utilities)) × (map (utility_of scope) (map utility_made plant.utilities) ≡ plant.utilities)
   utilities_read =
       rows_read (λ (earlier : List Utility) (d : Data). utility_tests scope (length earlier) d) (utility_of scope) utility_made plant.utilities (λ earlier utility next.
       utility_ok scope plant (length earlier) utility reads (at_next (SoundUtility plant.periods) plant.utilities earlier utility sound.utilities next)
-      (λ is. at_next (λ (utility : Utility). utility.rates ≡ []) plant.utilities earlier utility (sound.small is).rates next) sound.counts.periods.0
+      (λ is. at_next (λ (utility : Utility). utility.rates ≡ []) plant.utilities earlier utility (sound.small is).rates next)
+      (λ is. at_next (λ (utility : Utility). utility.label ≡ []) plant.utilities earlier utility (sound.small is).unlabelled.utilities next) sound.counts.periods.0
       (rw (← next.is no_utility) (reads.utilities (length earlier) next.within)))
 
   units_read : Pass (rows_tests (λ (earlier : List StnUnit) (d : Data). unit_tests scope (length earlier) d) (unit_of scope) [] (map (unit_made plant) plant.units)) × (map (unit_of scope) (map (unit_made plant) plant.units) ≡ plant.units)
@@ -151,6 +155,7 @@ module _ (plant : Plant) (sound : Sound plant) where
       rows_read (λ (earlier : List StnUnit) (d : Data). unit_tests scope (length earlier) d) (unit_of scope) (unit_made plant) plant.units (λ earlier unit next.
       unit_ok scope plant (length earlier) unit reads (at_next (SoundUnit plant) plant.units earlier unit sound.units next)
       (λ is. at_next (λ (unit : StnUnit). unit.last ≡ None) plant.units earlier unit (sound.small is).lasts next)
+      (λ is. at_next (λ (unit : StnUnit). unit.label ≡ []) plant.units earlier unit (sound.small is).unlabelled.units next)
       (rw (← next.is no_unit) (reads.units (length earlier) next.within)))
 
   -- the tasks that units name are declared
@@ -164,6 +169,9 @@ module _ (plant : Plant) (sound : Sound plant) where
   tasks_read =
       rows_read (λ (earlier : List Task) (d : Data). task_tests scope (length earlier) d) (task_of scope) (task_made plant) plant.tasks (λ earlier task next.
       task_ok scope plant (length earlier) task reads (at_next (SoundTask plant) plant.tasks earlier task sound.tasks next)
+      (λ is.
+      let unlabelled = (sound.small is).unlabelled in
+      (at_next (λ (task : Task). task.label ≡ []) plant.tasks earlier task unlabelled.tasks next, at_next (λ (task : Task). task.colour ≡ []) plant.tasks earlier task unlabelled.colours next))
       (rw (← next.is no_task) (reads.tasks (length earlier) next.within)))
 
   runs_read : Pass (rows_tests (λ (earlier : List Run) (d : Data). run_tests scope earlier d) (run_of scope) [] (map (run_made plant) plant.runs)) × (map (run_of scope) (map (run_made plant) plant.runs) ≡ plant.runs)
@@ -196,6 +204,8 @@ module _ (plant : Plant) (sound : Sound plant) where
 record Holds (plant : Plant) (inside : Members) : Type 0 where
   version : held inside (needed key.Version) ≡ Some (number (cond plant.large 3 2))
   periods : held inside (needed key.Periods) ≡ Some (number plant.periods)
+  start : held inside (since plant.large key.Start) ≡ start_of plant.calendar
+  minutes : held inside (since plant.large key.Minutes) ≡ minutes_of plant.calendar
   states : held inside (optional key.State) ≡ some_items (map state_made plant.states)
   utilities : held inside (optional key.Utility) ≡ some_items (map utility_made plant.utilities)
   units : held inside (optional key.StnUnit) ≡ some_items (map (unit_made plant) plant.units)
@@ -206,13 +216,22 @@ record Holds (plant : Plant) (inside : Members) : Type 0 where
   deliveries : held inside (optional key.Delivery) ≡ some_items (map (delivery_made plant) plant.deliveries)
   outages : held inside (since true key.Outage) ≡ some_items (map (outage_made plant) plant.outages)
 
-document_holds : (plant : Plant) → Holds plant (table_of (plant_entries plant))
+-- a plant that is not large has no calendar
+abbrev NoDates : Plant → Type 0
+NoDates plant = plant.large ≡ false → plant.calendar ≡ None
+
+no_dates : (plant : Plant) → Sound plant → NoDates plant
+no_dates plant sound = λ is. (sound.small is).unlabelled.calendar
+
+document_holds : (plant : Plant) → NoDates plant → Holds plant (table_of (plant_entries plant))
 unfolding plant_entries key_word
-document_holds plant =
+document_holds plant bare =
     let es = plant_entries plant in
     record {
       version = held_is (needed key.Version) es _ refl refl;
       periods = held_is (needed key.Periods) es _ refl refl;
+      start = held_since plant.large key.Start es (start_of plant.calendar) refl (λ small. rw (bare small) refl);
+      minutes = held_since plant.large key.Minutes es (minutes_of plant.calendar) refl (λ small. rw (bare small) refl);
       states = held_maybe (optional key.State) es _ refl refl;
       utilities = held_maybe (optional key.Utility) es _ refl refl;
       units = held_maybe (optional key.StnUnit) es _ refl refl;
@@ -241,7 +260,10 @@ is_third_document plant inside holds = rw holds.version (third_by plant.large)
 
 -- the document of a plant is of version 3 where the plant is large
 pub third_document : (plant : Plant) → is_third (table_of (plant_entries plant)) ≡ plant.large
-third_document plant = is_third_document plant (table_of (plant_entries plant)) (document_holds plant)
+unfolding plant_entries key_word
+third_document plant =
+    let version : held (table_of (plant_entries plant)) (needed key.Version) ≡ Some (number (cond plant.large 3 2)) = held_is (needed key.Version) (plant_entries plant) _ refl refl in
+    rw version (third_by plant.large)
 
 -- there are no more of a thing than a plant of its version may have
 few_by : (large : Bool) (n many few : ℕ) → n ≤ many → (large ≡ false → n ≤ few) → n ≤ cond large many few
@@ -306,8 +328,9 @@ plant_is plant inside sound holds =
     let receipts : items_at inside (optional key.Receipt) ≡ map (receipt_made plant) plant.receipts = items_back _ _ holds.receipts in
     let deliveries : items_at inside (optional key.Delivery) ≡ map (delivery_made plant) plant.deliveries = items_back _ _ holds.deliveries in
     let outages : items_at inside (since true key.Outage) ≡ map (outage_made plant) plant.outages = items_back _ _ holds.outages in
+    let calendar = calendar_back plant.calendar (held inside (since plant.large key.Start)) (held inside (since plant.large key.Minutes)) holds.start holds.minutes sound.calendar in
     rw (states, utilities, units, tasks, runs, gaps, receipts, deliveries, outages)
-    (rw ((states_read plant sound).1, (utilities_read plant sound).1, (units_read plant sound).1, (tasks_read plant sound).1, (runs_read plant sound).1, (gaps_read plant sound).1, (receipts_read plant sound).1, (deliveries_read plant sound).1, (outages_read plant sound).1) refl)
+    (rw (calendar, (states_read plant sound).1, (utilities_read plant sound).1, (units_read plant sound).1, (tasks_read plant sound).1, (runs_read plant sound).1, (gaps_read plant sound).1, (receipts_read plant sound).1, (deliveries_read plant sound).1, (outages_read plant sound).1) refl)
     )
 
 pub not_above : (most n : ℕ) → n ≤ most → nat_lt most n ≡ false
@@ -346,26 +369,46 @@ sizes_fields_ok plant inside sound holds =
     passes _ _ (count_ok _ _ _ _ _ _ holds.version (omega arith) (omega arith))
     (passes _ _ (count_ok _ _ _ _ _ _ holds.periods sound.counts.periods.0 sound.counts.periods.1) nothing)
 
-known_ok : (plant : Plant) → fields.has_unknown (fields.keys_of (size_fields true plant.large ++ (named_fields (scope_for plant) ++ referring_fields (scope_for plant)))) (table_of (plant_entries plant)) ≡ false
+-- the calendar passes the tests of its two keys
+dates_ok : (plant : Plant) (inside : Members) → Sound plant → Holds plant inside → Pass (fields.fields_tests top_place inside (calendar_fields plant.large inside))
+dates_ok plant inside sound holds =
+    let begins = has_third plant.large inside key.Start in
+    let measured = has_third plant.large inside key.Minutes in
+    let both = calendar_ok top_place (beside plant.large measured key.Start) (beside plant.large begins key.Minutes) plant.calendar (held inside (since plant.large key.Start)) (held inside (since plant.large key.Minutes))
+    holds.start holds.minutes refl refl sound.calendar in
+    passes _ _ both.0 (passes _ _ both.1 nothing)
+
+-- the keys at the top, by whether the plant is large
+abbrev top_keys : Bool → Members → Scope → List Key
+top_keys large inside scope = fields.keys_of (size_fields true large ++ (calendar_fields large inside ++ (named_fields scope ++ referring_fields scope)))
+
+top_known : (large : Bool) (plant : Plant) (inside : Members) → (large ≡ false → plant.calendar ≡ None) → AreKnown (top_keys large inside (scope_for plant)) (plant_entries plant)
 unfolding plant_entries key_word
-known_ok plant = all_known (fields.keys_of (size_fields true plant.large ++ (named_fields (scope_for plant) ++ referring_fields (scope_for plant)))) (plant_entries plant) refl
+top_known true plant inside bare = refl
+top_known false plant inside bare = rw (bare refl) refl
+
+known_ok : (plant : Plant) → NoDates plant → let inside = table_of (plant_entries plant) in fields.has_unknown (top_keys plant.large inside (scope_for plant)) inside ≡ false
+known_ok plant bare = all_known (top_keys plant.large (table_of (plant_entries plant)) (scope_for plant)) (plant_entries plant) (top_known plant.large plant (table_of (plant_entries plant)) bare)
 
 unknown_ok : (plant : Plant) → Sound plant → Pass (unknown_tests (table_of (plant_entries plant)))
 unfolding unknown_tests
 unknown_ok plant sound =
-    let holds = document_holds plant in
-    one_more _ _ [] (rw (scope_is plant (table_of (plant_entries plant)) sound holds) (known_ok plant)) nothing
+    let bare = no_dates plant sound in
+    let inside = table_of (plant_entries plant) in
+    let holds = document_holds plant bare in
+    one_more _ _ [] (rw (scope_is plant inside sound holds, is_third_document plant inside holds) (known_ok plant bare)) nothing
 
 -- the document of a plant passes all its tests, and is read as the plant
 pub document_ok : (plant : Plant) → Sound plant → Pass (document_tests (table_of (plant_entries plant))) × (plant_in (table_of (plant_entries plant)) ≡ plant)
 unfolding document_tests
 document_ok plant sound =
     let inside = table_of (plant_entries plant) in
-    let holds = document_holds plant in
+    let holds = document_holds plant (no_dates plant sound) in
     let sized : Pass (fields.fields_tests top_place inside (size_fields (is_second inside) (is_third inside))) = rw (is_second_document plant inside holds, is_third_document plant inside holds) (sizes_fields_ok plant inside sound holds) in
+    let dated : Pass (fields.fields_tests top_place inside (calendar_fields (is_third inside) inside)) = rw (is_third_document plant inside holds) (dates_ok plant inside sound holds) in
     let named : Pass (fields.fields_tests top_place inside (named_fields (scope_in inside))) = rw (scope_is plant inside sound holds) (named_ok plant inside sound holds) in
     let lasts : Pass (lasts_tests (scope_in inside) inside) = rw (scope_is plant inside sound holds) (lasts_ok plant inside sound holds) in
     let referring : Pass (fields.fields_tests top_place inside (referring_fields (scope_in inside))) = rw (scope_is plant inside sound holds) (referring_ok plant inside sound holds) in
     let whole = plant_is plant inside sound holds in
     let counted : Pass (size_tests (plant_in inside)) = rw whole (sizes_ok plant sound) in
-    (passes _ _ (unknown_ok plant sound) (passes _ _ sized (passes _ _ named (passes _ _ lasts (passes _ _ referring counted)))), whole)
+    (passes _ _ (unknown_ok plant sound) (passes _ _ sized (passes _ _ dated (passes _ _ named (passes _ _ lasts (passes _ _ referring counted))))), whole)

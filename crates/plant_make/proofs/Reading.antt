@@ -29,14 +29,15 @@ use Rattle.plant_text.specs.Fields.{table_tests, keys_of, held, needed, optional
 use Rattle.plant_text.specs.Scope.{Scope}
 use Rattle.plant_text.specs.Tables.{has_run, run_place, outage_place, state_fields, state_tests, state_of, utility_fields, utility_tests, utility_of, unit_fields, unit_tests, unit_of, last_tests, run_fields, run_tests, run_more_tests, run_of, gap_fields, gap_tests, gap_of, receipt_fields, receipt_tests, receipt_of, delivery_fields, delivery_tests, delivery_of, outage_fields, outage_tests, outage_more_tests, outage_of, draw_fields, draw_tests, draw_of}
 use Rattle.plant_text.proofs.Faults.{passes, nothing}
-use Rattle.plant_make.specs.Entries.{table_of, number, numbers, some_amounts}
+use Rattle.plant_make.specs.Entries.{table_of, number, numbers, some_text, some_amounts}
 use Rattle.plant_make.specs.Numbers.{lone, several}
 use Rattle.plant_make.specs.Printed.{made_of, lone_rate, last_name, until_of, state_name, utility_name, unit_name, task_name, state_entries, utility_entries, unit_entries, run_entries, gap_entries, receipt_entries, delivery_entries, outage_entries, draw_entries}
 use Rattle.plant_make.proofs.Tables.{AreKnown, held_is, held_maybe, held_since, head_ok}
 use Rattle.plant_make.proofs.Passing.{Pass, count_ok, money_ok, name_ok, refers_ok, numbers_ok, numbers_back, one_more}
 use Rattle.plant_make.proofs.Limits.{limits_ok, always_some}
 use Rattle.plant_make.proofs.Rates.{rates_ok}
-use Rattle.plant_make.proofs.Lasts.{mention_ok, moment_ok, last_back, declared}
+use Rattle.plant_make.proofs.Labels.{label_ok, text_back}
+use Rattle.plant_make.proofs.Lasts.{mention_ok, time_ok, last_back, declared}
 
 -- the scope is that of the plant: version 3 where it is large, else 2, its horizon, and its names at their places
 pub record IsScopeOf (plant : Plant) (scope : Scope) : Type 0 where
@@ -173,12 +174,13 @@ run_ok scope plant earlier run reads sound alone =
     )
 
 -- a unit has no key that the version does not know
-unit_known : (scope : Scope) (place : ℕ) (inside : Members) (plant : Plant) (unit : StnUnit) → (scope.third ≡ false → unit.last ≡ None) → AreKnown (keys_of (unit_fields scope place inside)) (unit_entries plant unit)
+unit_known : (scope : Scope) (place : ℕ) (inside : Members) (plant : Plant) (unit : StnUnit) → (scope.third ≡ false → unit.last ≡ None) → (scope.third ≡ false → unit.label ≡ [])
+    → AreKnown (keys_of (unit_fields scope place inside)) (unit_entries plant unit)
 unfolding unit_fields unit_entries key_word
-unit_known scope place inside plant unit few =
+unit_known scope place inside plant unit few bare =
     elim (cases_Bool scope.third) [
       | inl e ↦ rw e refl
-      | inr e ↦ rw (e, few e) refl
+      | inr e ↦ rw (e, few e, bare e) refl
     ]
 
 -- the key of a task's name is there where a batch held the unit last
@@ -212,23 +214,27 @@ last_kept : (scope : Scope) (plant : Plant) (alone : Bool) (last : Option Last) 
 last_kept scope plant alone None reads sound with_other = tt
 last_kept scope plant alone (Some last) reads sound with_other = (with_other, sound.early, rw reads.periods sound.late)
 
-pub unit_ok : (scope : Scope) (plant : Plant) (place : ℕ) (unit : StnUnit) → IsScopeOf plant scope → SoundUnit plant unit → (plant.large ≡ false → unit.last ≡ None) → scope.units unit.name ≡ Some place
+pub unit_ok : (scope : Scope) (plant : Plant) (place : ℕ) (unit : StnUnit) → IsScopeOf plant scope → SoundUnit plant unit → (plant.large ≡ false → unit.last ≡ None) → (plant.large ≡ false → unit.label ≡ [])
+    → scope.units unit.name ≡ Some place
     → Pass (unit_tests scope place (made_of (unit_entries plant unit))) × (unit_of scope (made_of (unit_entries plant unit)) ≡ unit)
 unfolding unit_tests unit_fields unit_of unit_entries key_word
-unit_ok scope plant place unit reads sound few declared =
+unit_ok scope plant place unit reads sound few bare declared =
     let es = unit_entries plant unit in
     let inside = table_of es in
     let by_version : scope.third ≡ false → unit.last ≡ None = λ small. few (sym reads.third ∙ small) in
+    let plain : scope.third ≡ false → unit.label ≡ [] = λ small. bare (sym reads.third ∙ small) in
     let name : held inside (needed key.Name) ≡ Some (string unit.name) = held_is (needed key.Name) es _ refl refl in
+    let label : held inside (since scope.third key.Label) ≡ some_text unit.label = held_since scope.third key.Label es (some_text unit.label) refl (λ small. rw (plain small) refl) in
     let holds = last_held scope plant unit by_version in
     let alone = not (is_some (held inside (optional key.Last))) in
     let kept = last_kept scope plant alone unit.last reads sound.last (not_alone plant unit.last _ holds.known) in
     let back = last_back scope.tasks plant unit.last _ _ holds.last holds.until (last_named scope plant unit reads sound) in (
-      passes _ _ (head_ok _ _ es (unit_known scope place inside plant unit by_version))
+      passes _ _ (head_ok _ _ es (unit_known scope place inside plant unit by_version plain))
           (passes _ _ (name_ok _ _ _ _ _ _ name sound.name declared)
+          (passes _ _ (label_ok _ (since scope.third key.Label) unit.label _ label refl sound.label)
           (passes _ _ (mention_ok _ (since scope.third key.Last) plant unit.last _ holds.last refl)
-          (passes _ _ (moment_ok _ (since scope.third key.Until) alone (negsuc 335) (pos scope.periods) unit.last _ holds.until refl kept) nothing))),
-      rw (name, back) refl,
+          (passes _ _ (time_ok _ (since scope.third key.Until) alone (negsuc 335) (pos scope.periods) unit.last _ holds.until refl kept) nothing)))),
+      rw (name, text_back unit.label _ label, back) refl,
     )
 
 -- and its task is declared
@@ -240,24 +246,28 @@ last_ok scope plant place unit reads sound few =
     one_more _ _ [] (declared scope.tasks plant unit.last _ holds.last (last_named scope plant unit reads sound)) nothing
 
 -- a utility has no key that the version does not know
-utility_known : (scope : Scope) (place : ℕ) (inside : Members) (utility : Utility) → scope.second ≡ true → (scope.third ≡ false → utility.rates ≡ []) → AreKnown (keys_of (utility_fields scope place inside)) (utility_entries utility)
+utility_known : (scope : Scope) (place : ℕ) (inside : Members) (utility : Utility) → scope.second ≡ true → (scope.third ≡ false → utility.rates ≡ []) → (scope.third ≡ false → utility.label ≡ [])
+    → AreKnown (keys_of (utility_fields scope place inside)) (utility_entries utility)
 unfolding utility_fields utility_entries key_word
-utility_known scope place inside utility second few =
+utility_known scope place inside utility second few bare =
     elim (cases_Bool scope.third) [
       | inl e ↦ rw (second, e) refl
-      | inr e ↦ rw (second, e, few e) refl
+      | inr e ↦ rw (second, e, few e, bare e) refl
     ]
 
-pub utility_ok : (scope : Scope) (plant : Plant) (place : ℕ) (utility : Utility) → IsScopeOf plant scope → SoundUtility plant.periods utility → (plant.large ≡ false → utility.rates ≡ []) → 1 ≤ plant.periods → scope.utilities utility.name ≡ Some place
+pub utility_ok : (scope : Scope) (plant : Plant) (place : ℕ) (utility : Utility) → IsScopeOf plant scope → SoundUtility plant.periods utility → (plant.large ≡ false → utility.rates ≡ [])
+    → (plant.large ≡ false → utility.label ≡ []) → 1 ≤ plant.periods → scope.utilities utility.name ≡ Some place
     → Pass (utility_tests scope place (made_of (utility_entries utility))) × (utility_of scope (made_of (utility_entries utility)) ≡ utility)
 unfolding utility_tests utility_fields utility_of utility_entries key_word
-utility_ok scope plant place utility reads sound few some declared =
+utility_ok scope plant place utility reads sound few bare some declared =
     let es = utility_entries utility in
     let inside = table_of es in
     let name : held inside (needed key.Name) ≡ Some (string utility.name) = held_is (needed key.Name) es _ refl refl in
     let limit : held inside (needed key.Limit) ≡ option_map number (lone utility.limits) = held_maybe (needed key.Limit) es (option_map number (lone utility.limits)) refl refl in
     let limits : held inside (since scope.second key.Limits) ≡ option_map numbers (several utility.limits) = held_maybe (since scope.second key.Limits) es (option_map numbers (several utility.limits)) reads.second refl in
     let by_version : scope.third ≡ false → utility.rates ≡ [] = λ small. few (sym reads.third ∙ small) in
+    let plain : scope.third ≡ false → utility.label ≡ [] = λ small. bare (sym reads.third ∙ small) in
+    let label : held inside (since scope.third key.Label) ≡ some_text utility.label = held_since scope.third key.Label es (some_text utility.label) refl (λ small. rw (plain small) refl) in
     let rate : held inside (optional key.Rate) ≡ lone_rate utility = held_maybe (optional key.Rate) es (lone_rate utility) refl refl in
     let rates : held inside (since scope.third key.Rates) ≡ some_amounts utility.rates = held_since scope.third key.Rates es (some_amounts utility.rates) refl (λ small. rw (by_version small) refl) in
     let lone_key : Key = record { name = key.Limit; known = true; required = not (is_some (held inside (since scope.second key.Limits))) } in
@@ -267,22 +277,34 @@ utility_ok scope plant place utility reads sound few some declared =
     let whole : (utility.rates ≡ []) ⊎ ((length utility.rates ≡ scope.periods) × (utility.rate ≡ pos 0)) = elim sound.rates [ inl none ↦ inl none | inr all ↦ inr (all.0 ∙ sym reads.periods, all.1) ] in
     let cost = rates_ok (record { table = table.Utility; item = place + 1; inner = 0 }) (optional key.Rate) (since scope.third key.Rates) (held inside (optional key.Rate)) (held inside (since scope.third key.Rates)) utility.rate utility.rates scope.periods 1000000
     rate rates refl refl whole sound.rate (recursion_from_All (λ x. unsigned_abs x ≤ 1000000) utility.rates sound.each_rate) in (
-      passes _ _ (head_ok _ _ es (utility_known scope place inside utility reads.second by_version))
+      passes _ _ (head_ok _ _ es (utility_known scope place inside utility reads.second by_version plain))
           (passes _ _ (name_ok _ _ _ _ _ _ name sound.name declared)
+          (passes _ _ (label_ok _ (since scope.third key.Label) utility.label _ label refl sound.label)
           (passes _ _ (kept.0)
           (passes _ _ (kept.1)
           (passes _ _ (cost.0)
-          (passes _ _ (cost.1) nothing))))),
-      rw (name, kept.2, cost.2, cost.3) refl,
+          (passes _ _ (cost.1) nothing)))))),
+      rw (name, text_back utility.label _ label, kept.2, cost.2, cost.3) refl,
     )
 
-pub state_ok : (scope : Scope) (plant : Plant) (place : ℕ) (state : State) → IsScopeOf plant scope → SoundState plant.periods state → scope.states state.name ≡ Some place
+-- a state has no key that the version does not know
+state_known : (scope : Scope) (place : ℕ) (inside : Members) (state : State) → scope.second ≡ true → (scope.third ≡ false → state.label ≡ []) → AreKnown (keys_of (state_fields scope place inside)) (state_entries state)
+unfolding state_fields state_entries key_word
+state_known scope place inside state second bare =
+    elim (cases_Bool scope.third) [
+      | inl e ↦ rw (second, e) refl
+      | inr e ↦ rw (second, e, bare e) refl
+    ]
+
+pub state_ok : (scope : Scope) (plant : Plant) (place : ℕ) (state : State) → IsScopeOf plant scope → SoundState plant.periods state → (plant.large ≡ false → state.label ≡ []) → scope.states state.name ≡ Some place
     → Pass (state_tests scope place (made_of (state_entries state))) × (state_of scope (made_of (state_entries state)) ≡ state)
 unfolding state_tests state_fields state_of state_entries key_word
-state_ok scope plant place state reads sound declared =
+state_ok scope plant place state reads sound bare declared =
     let es = state_entries state in
     let inside = table_of es in
     let name : held inside (needed key.Name) ≡ Some (string state.name) = held_is (needed key.Name) es _ refl refl in
+    let plain : scope.third ≡ false → state.label ≡ [] = λ small. bare (sym reads.third ∙ small) in
+    let label : held inside (since scope.third key.Label) ≡ some_text state.label = held_since scope.third key.Label es (some_text state.label) refl (λ small. rw (plain small) refl) in
     let initial : held inside (optional key.Initial) ≡ Some (number state.initial) = held_is (optional key.Initial) es _ refl refl in
     let limit : held inside (optional key.Limit) ≡ option_map number (lone state.limits) = held_maybe (optional key.Limit) es (option_map number (lone state.limits)) refl refl in
     let limits : held inside (since scope.second key.Limits) ≡ option_map numbers (several state.limits) = held_maybe (since scope.second key.Limits) es (option_map numbers (several state.limits)) reads.second refl in
@@ -291,14 +313,15 @@ state_ok scope plant place state reads sound declared =
     let times : suc plant.periods ≡ scope.periods + 1 = omega (arith, reads.periods) in
     let kept = limits_ok (record { table = table.State; item = place + 1; inner = 0 }) (optional key.Limit) (since scope.second key.Limits) (held inside (optional key.Limit)) (held inside (since scope.second key.Limits)) state.limits (scope.periods + 1) 1000000000
     limit limits (λ none. refl) refl (elim sound.limits [ inl none ↦ inl none | inr all ↦ inr (all ∙ times) ]) (recursion_from_All (λ n. n ≤ 1000000000) state.limits sound.limit) in (
-      passes _ _ (head_ok _ _ es (rw reads.second refl))
+      passes _ _ (head_ok _ _ es (state_known scope place inside state reads.second plain))
           (passes _ _ (name_ok _ _ _ _ _ _ name sound.name declared)
+          (passes _ _ (label_ok _ (since scope.third key.Label) state.label _ label refl sound.label)
           (passes _ _ (count_ok _ _ _ _ _ _ initial (omega arith) sound.initial)
           (passes _ _ (kept.0)
           (passes _ _ (kept.1)
           (passes _ _ (money_ok _ _ _ _ _ price sound.price)
-          (passes _ _ (money_ok _ _ _ _ _ holding sound.holding) nothing)))))),
-      rw (name, initial, price, holding, kept.2) refl,
+          (passes _ _ (money_ok _ _ _ _ _ holding sound.holding) nothing))))))),
+      rw (name, text_back state.label _ label, initial, price, holding, kept.2) refl,
     )
 
 pub draw_ok : (scope : Scope) (plant : Plant) (owner : Owner) (place : ℕ) (draw : Draw) → IsScopeOf plant scope → SoundDraw plant owner.duration draw

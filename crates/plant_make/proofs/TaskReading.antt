@@ -1,9 +1,10 @@
 -- Tables of tasks are read as the tasks.
-use Rattle.std.proofs.Common.{◌≡◌, ℕ, ◌*◌, ◌≤◌, Bool, true, false, List, [], ◌∷◌, ◌++◌, map, length, Some, None, sum_by, eq-eqb, refl, sym, ap, ◌∙◌, subst}
+use Rattle.std.proofs.Common.{◌≡◌, ℕ, ◌*◌, ◌≤◌, Bool, true, false, List, [], ◌∷◌, ◌++◌, map, length, Some, None, sum_by, eq-eqb, inl, inr, refl, sym, ap, ◌∙◌, subst}
 use Rattle.std.specs.List.{AllByRecursion, AllZip}
+use Rattle.std.proofs.lemmas.Bool.{cases_Bool}
 use Rattle.std.proofs.lemmas.List.{length-map, map-id}
 use Rattle.std.proofs.lemmas.List.Elements.{All-from_recursion, recursion_from_All}
-use Rattle.toml.specs.Data.{Data, string}
+use Rattle.toml.specs.Data.{Data, Members, string}
 use Rattle.fraction.specs.declared.fraction_of.Fraction.{Fraction}
 use Rattle.fraction.specs.Fractions.{IsProper, SumsToOne, sums_to_one}
 use Rattle.fraction.proofs.Amounts.{parts_sum}
@@ -22,17 +23,18 @@ use Rattle.plant_text.specs.declared.scope.Owner.{Owner}
 use Rattle.plant_text.specs.declared.tables.side.SidePart.{SidePart}
 use Rattle.plant_text.specs.Words.{key_word}
 use Rattle.plant_text.specs.Tests.{rows_tests}
-use Rattle.plant_text.specs.Fields.{held, needed, optional, items_at}
+use Rattle.plant_text.specs.Fields.{keys_of, held, needed, optional, since, items_at}
 use Rattle.plant_text.specs.Scope.{Scope}
 use Rattle.plant_text.specs.Tables.{is_output, side_fields, side_tests, side_of, output_of, input_of, whole_tests, share_tests, sides_tests, outputs_in, draw_tests, draw_of, owner_in, quantum_in, outputs_of, drawer_in, task_fields, task_tests, task_of}
 use Rattle.plant_text.proofs.Faults.{passes, nothing}
-use Rattle.plant_make.specs.Entries.{table_of, number, some_items}
+use Rattle.plant_make.specs.Entries.{table_of, number, some_text, some_items}
 use Rattle.plant_make.specs.Numbers.{part_of}
 use Rattle.plant_make.specs.Printed.{made_of, state_name, part_text, input_entries, output_entries, draw_entries, task_entries}
 use Rattle.plant_make.proofs.Parts.{IsPartOf, part_good, part_whole}
 use Rattle.plant_make.proofs.Lists.{rows_read, at_next, all_so, map_same}
-use Rattle.plant_make.proofs.Tables.{held_is, held_maybe, head_ok}
+use Rattle.plant_make.proofs.Tables.{AreKnown, held_is, held_maybe, held_since, head_ok}
 use Rattle.plant_make.proofs.Passing.{Pass, absent_ok, count_ok, name_ok, refers_ok, part_ok, tables_ok, maybe_tables_ok, items_back, some_there, one_more}
+use Rattle.plant_make.proofs.Labels.{label_ok, colour_ok, text_back}
 use Rattle.plant_make.proofs.Reading.{IsScopeOf, draw_ok}
 
 -- an item of a side: its tests, what it is read as, and that its amount is its part of the quantum
@@ -191,16 +193,28 @@ draws_ok scope plant owner task reads sound long =
     (λ earlier draw next.
     draw_ok scope plant owner (length earlier) draw reads (subst (λ (duration : ℕ). SoundDraw plant duration draw) (sym long) (at_next (SoundDraw plant (duration_of task)) task.draws earlier draw sound.draw next)))
 
-pub task_ok : (scope : Scope) (plant : Plant) (place : ℕ) (task : Task) → IsScopeOf plant scope → SoundTask plant task → scope.tasks task.name ≡ Some place
+-- a task has no key that the version does not know
+task_known : (scope : Scope) (place : ℕ) (inside : Members) (plant : Plant) (task : Task) → (scope.third ≡ false → (task.label ≡ []) × (task.colour ≡ [])) → AreKnown (keys_of (task_fields scope place inside)) (task_entries plant task)
+unfolding task_fields task_entries key_word
+task_known scope place inside plant task bare =
+    elim (cases_Bool scope.third) [
+      | inl e ↦ rw e refl
+      | inr e ↦ rw (e, (bare e).0, (bare e).1) refl
+    ]
+
+pub task_ok : (scope : Scope) (plant : Plant) (place : ℕ) (task : Task) → IsScopeOf plant scope → SoundTask plant task → (plant.large ≡ false → (task.label ≡ []) × (task.colour ≡ [])) → scope.tasks task.name ≡ Some place
     → Pass (task_tests scope place (made_of (task_entries plant task))) × (task_of scope (made_of (task_entries plant task)) ≡ task)
 unfolding task_tests task_fields task_of outputs_of task_entries duration_of key_word
-task_ok scope plant place task reads sound declared =
+task_ok scope plant place task reads sound bare declared =
     let es = task_entries plant task in
     let inside = table_of es in
     let in_ds = map (input_made plant task.quantum) task.inputs in
     let out_ds = map (output_made plant task.quantum) task.outputs in
     let draw_ds = map (draw_made plant) task.draws in
     let name : held inside (needed key.Name) ≡ Some (string task.name) = held_is (needed key.Name) es _ refl refl in
+    let plain : scope.third ≡ false → (task.label ≡ []) × (task.colour ≡ []) = λ small. bare (sym reads.third ∙ small) in
+    let label : held inside (since scope.third key.Label) ≡ some_text task.label = held_since scope.third key.Label es (some_text task.label) refl (λ small. rw (plain small).0 refl) in
+    let colour : held inside (since scope.third key.Colour) ≡ some_text task.colour = held_since scope.third key.Colour es (some_text task.colour) refl (λ small. rw (plain small).1 refl) in
     let size : held inside (needed key.Quantum) ≡ Some (number task.quantum) = held_is (needed key.Quantum) es _ refl refl in
     let ins : held inside (needed key.Input) ≡ some_items in_ds = held_maybe (needed key.Input) es (some_items in_ds) refl refl in
     let outs : held inside (needed key.Output) ≡ some_items out_ds = held_maybe (needed key.Output) es (some_items out_ds) refl refl in
@@ -218,11 +232,13 @@ task_ok scope plant place task reads sound declared =
     let outs_few : length out_ds ≤ 8 = rw (length-map task.outputs (output_made plant task.quantum)) sound.outputs.1 in
     let outs_some : 1 ≤ length out_ds = rw (length-map task.outputs (output_made plant task.quantum)) sound.outputs.0 in
     let draws_few : length draw_ds ≤ 8 = rw (length-map task.draws (draw_made plant)) sound.draws in (
-      passes _ _ (head_ok _ _ es refl)
+      passes _ _ (head_ok _ _ es (task_known scope place inside plant task plain))
           (passes _ _ (name_ok _ _ _ _ _ _ name sound.name declared)
+          (passes _ _ (label_ok _ (since scope.third key.Label) task.label _ label refl sound.label)
+          (passes _ _ (colour_ok _ (since scope.third key.Colour) task.colour _ colour refl sound.colour)
           (passes _ _ (count_ok _ _ _ _ _ _ size sound.quantum.0 sound.quantum.1)
           (passes _ _ (tables_ok _ _ _ _ in_ds _ (ins ∙ some_there in_ds ins_some) ins_few (rw quantum taken.0))
           (passes _ _ (tables_ok _ _ _ _ out_ds _ (outs ∙ some_there out_ds outs_some) outs_few (rw quantum given.0))
-          (passes _ _ (maybe_tables_ok _ _ _ _ draw_ds _ drawn refl draws_few draws.0) nothing))))),
-      rw (name, quantum, in_items, out_items, draw_items, taken.1, given.1, draws.1) refl,
+          (passes _ _ (maybe_tables_ok _ _ _ _ draw_ds _ drawn refl draws_few draws.0) nothing))))))),
+      rw (name, text_back task.label _ label, text_back task.colour _ colour, quantum, in_items, out_items, draw_items, taken.1, given.1, draws.1) refl,
     )

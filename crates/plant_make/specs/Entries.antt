@@ -3,7 +3,7 @@ use Rattle.std.specs.Prelude.{ℕ, ℤ, pos, List, [], ◌∷◌, map, Option, S
 use Rattle.std.specs.Ordering.{nat_cmp, match_ordering}
 use Rattle.std.specs.Cmp.Lexicographic.{slice_cmp}
 use Rattle.std.specs.List.{fold}
-use Rattle.toml.specs.Data.{Data, integer, array, Members, no_members, member}
+use Rattle.toml.specs.Data.{Data, string, integer, array, Members, no_members, member}
 use Rattle.toml.specs.View.{items_of}
 use Rattle.plant_text.specs.declared.fault.KeyName.{KeyName}
 use Rattle.plant_text.specs.Words.{key_word}
@@ -30,6 +30,11 @@ table_of entries = fold with_entry no_members entries
 -- a whole number
 abbrev pub number : ℕ → Data
 number n = integer (pos n)
+
+-- a text, left out where it is empty
+abbrev pub some_text : List ℕ → Option Data
+some_text [] = None
+some_text (byte ∷ text) = Some (string (byte ∷ text))
 
 -- an array of values, and one of whole numbers
 abbrev pub array_of : List Data → Data

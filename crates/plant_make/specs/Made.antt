@@ -41,9 +41,9 @@ made_periods = 12
 -- the states of a chain: a feed (F), an intermediate (I) and a product (P)
 unfoldable pub states_of : ℕ → ℕ → List State
 states_of seed chain =
-    record { name = letter_name 70 chain; initial = 100 + 10 * of_chain seed chain 0 11; limits = []; price = pos (1 + of_chain seed chain 1 3); holding = pos 0 }
-    ∷ record { name = letter_name 73 chain; initial = 0; limits = replicate 13 (20 + 10 * of_chain seed chain 2 5); price = pos 0; holding = pos (of_chain seed chain 3 2) }
-    ∷ record { name = letter_name 80 chain; initial = 0; limits = []; price = pos (10 + of_chain seed chain 4 11); holding = pos 0 } ∷ []
+    record { name = letter_name 70 chain; label = []; initial = 100 + 10 * of_chain seed chain 0 11; limits = []; price = pos (1 + of_chain seed chain 1 3); holding = pos 0 }
+    ∷ record { name = letter_name 73 chain; label = []; initial = 0; limits = replicate 13 (20 + 10 * of_chain seed chain 2 5); price = pos 0; holding = pos (of_chain seed chain 3 2) }
+    ∷ record { name = letter_name 80 chain; label = []; initial = 0; limits = []; price = pos (10 + of_chain seed chain 4 11); holding = pos 0 } ∷ []
 
 -- the task M of a chain makes the intermediate of the feed, and draws steam in each of its periods
 abbrev pub first_task : ℕ → ℕ → Task
@@ -51,6 +51,8 @@ first_task seed chain =
     let long = 1 + of_chain seed chain 5 2 in
     record {
       name = letter_name 77 chain;
+      label = [];
+      colour = [];
       quantum = 5;
       inputs = record { state = 3 * chain; amount = 5 } ∷ [];
       outputs = record { state = 3 * chain + 1; amount = 5; delay = long } ∷ [];
@@ -61,6 +63,8 @@ first_task seed chain =
 abbrev pub second_task : ℕ → ℕ → Task
 second_task seed chain = record {
   name = letter_name 75 chain;
+  label = [];
+  colour = [];
   quantum = 5;
   inputs = record { state = 3 * chain + 1; amount = 5 } ∷ [];
   outputs =
@@ -81,7 +85,7 @@ runs_of seed chain =
 
 -- a unit
 unfoldable pub units_of : ℕ → List StnUnit
-units_of unit = record { name = letter_name 85 unit; last = None } ∷ []
+units_of unit = record { name = letter_name 85 unit; label = []; last = None } ∷ []
 
 -- the gaps on a unit: from the first chain's tasks to the second chain's
 unfoldable pub gaps_of : ℕ → List Gap
@@ -91,17 +95,18 @@ gaps_of unit =
 
 -- the steam, which takes the number after those of all chains
 unfoldable pub steam_of : ℕ → ℕ → Utility
-steam_of seed chains = record { name = codes "steam"; limits = replicate made_periods (12 + number_at seed (15 * chains) 9); rate = pos 1; rates = [] }
+steam_of seed chains = record { name = codes "steam"; label = []; limits = replicate made_periods (12 + number_at seed (15 * chains) 9); rate = pos 1; rates = [] }
 
 -- a plant that has nothing but its horizon
 abbrev pub bare_plant : Plant
-bare_plant = record { large = false; periods = made_periods; states = []; utilities = []; units = []; tasks = []; runs = []; gaps = []; receipts = []; deliveries = []; outages = [] }
+bare_plant = record { large = false; periods = made_periods; calendar = None; states = []; utilities = []; units = []; tasks = []; runs = []; gaps = []; receipts = []; deliveries = []; outages = [] }
 
 -- the plant of a seed with so many chains
 unfoldable pub plant_made : ℕ → ℕ → Plant
 plant_made seed chains = record {
   large = false;
   periods = made_periods;
+  calendar = None;
   states = chained (states_of seed) chains;
   utilities = steam_of seed chains ∷ [];
   units = chained units_of 3;

@@ -1,8 +1,11 @@
 -- What the records of a plant are printed as: the keys of each table, in the order of the field table.
 use Rattle.std.specs.Prelude.{ℕ, pos, ◌==◌, if◌then◌else◌, List, [], ◌∷◌, length, map, Option, Some, None, option_map}
 use Rattle.std.specs.Ordering.{int_eq}
-use Rattle.toml.specs.Data.{Data, string, integer, table}
+use Rattle.toml_datetime.specs.declared.datetime.Datetime.{Datetime}
+use Rattle.toml.specs.Data.{Data, string, integer, datetime, table}
 use Rattle.stn_model.specs.declared.plant.Plant.{Plant}
+use Rattle.stn_model.specs.declared.plant.Calendar.{Calendar}
+use Rattle.stn_model.specs.declared.plant.Moment.{Moment}
 use Rattle.stn_model.specs.declared.plant.State.{State}
 use Rattle.stn_model.specs.declared.plant.Utility.{Utility}
 use Rattle.stn_model.specs.declared.plant.StnUnit.{StnUnit}
@@ -19,7 +22,7 @@ use Rattle.stn_model.specs.declared.plant.Outage.{Outage}
 use Rattle.stn_model.specs.Plant.{state_at, utility_at, task_at, unit_at}
 use Rattle.fraction.specs.Fractions.{fraction_text}
 use Rattle.plant_text.specs.declared.fault.KeyName.TheVariants as key
-use Rattle.plant_make.specs.Entries.{Entry, table_of, number, numbers, some_items, some_amounts}
+use Rattle.plant_make.specs.Entries.{Entry, table_of, number, numbers, some_text, some_items, some_amounts}
 use Rattle.plant_make.specs.Numbers.{lone, several, part_of}
 
 -- the table of some entries as a value
@@ -42,6 +45,7 @@ task_name plant task = string (task_at plant task).name
 unfoldable pub state_entries : State → List Entry
 state_entries state =
     (key.Name, Some (string state.name))
+    ∷ (key.Label, some_text state.label)
     ∷ (key.Initial, Some (number state.initial))
     ∷ (key.Limit, option_map number (lone state.limits))
     ∷ (key.Limits, option_map numbers (several state.limits))
@@ -55,6 +59,7 @@ lone_rate utility = if length utility.rates == 0 then Some (integer utility.rate
 unfoldable pub utility_entries : Utility → List Entry
 utility_entries utility =
     (key.Name, Some (string utility.name))
+    ∷ (key.Label, some_text utility.label)
     ∷ (key.Limit, option_map number (lone utility.limits))
     ∷ (key.Limits, option_map numbers (several utility.limits))
     ∷ (key.Rate, lone_rate utility)
@@ -72,6 +77,7 @@ until_of (Some last) = if int_eq last.until (pos 0) then None else Some (integer
 unfoldable pub unit_entries : Plant → StnUnit → List Entry
 unit_entries plant unit =
     (key.Name, Some (string unit.name))
+    ∷ (key.Label, some_text unit.label)
     ∷ (key.Last, last_name plant unit.last)
     ∷ (key.Until, until_of unit.last) ∷ []
 
@@ -134,16 +140,35 @@ draw_entries plant draw =
 unfoldable pub task_entries : Plant → Task → List Entry
 task_entries plant task =
     (key.Name, Some (string task.name))
+    ∷ (key.Label, some_text task.label)
+    ∷ (key.Colour, some_text task.colour)
     ∷ (key.Quantum, Some (number task.quantum))
     ∷ (key.Input, some_items (map (λ input. made_of (input_entries plant task.quantum input)) task.inputs))
     ∷ (key.Output, some_items (map (λ output. made_of (output_entries plant task.quantum output)) task.outputs))
     ∷ (key.Draw, some_items (map (λ draw. made_of (draw_entries plant draw)) task.draws)) ∷ []
+
+-- a moment as a local date-time of whole seconds
+abbrev pub date_time : Moment → Datetime
+date_time moment = record {
+  date = Some (record { year = moment.year; month = moment.month; day = moment.day });
+  time = Some (record { hour = moment.hour; minute = moment.minute; second = Some moment.second; nanosecond = None });
+  offset = None;
+}
+
+-- when the calendar begins, and the minutes of its periods; nothing without a calendar
+abbrev pub start_of : Option Calendar → Option Data
+start_of calendar = option_map (λ c. datetime (date_time c.start)) calendar
+
+abbrev pub minutes_of : Option Calendar → Option Data
+minutes_of calendar = option_map (λ c. number c.minutes) calendar
 
 -- the keys at the top
 unfoldable pub plant_entries : Plant → List Entry
 plant_entries plant =
     (key.Version, Some (number (if plant.large then 3 else 2)))
     ∷ (key.Periods, Some (number plant.periods))
+    ∷ (key.Start, start_of plant.calendar)
+    ∷ (key.Minutes, minutes_of plant.calendar)
     ∷ (key.State, some_items (map (λ state. made_of (state_entries state)) plant.states))
     ∷ (key.Utility, some_items (map (λ utility. made_of (utility_entries utility)) plant.utilities))
     ∷ (key.StnUnit, some_items (map (λ unit. made_of (unit_entries plant unit)) plant.units))

@@ -36,6 +36,7 @@ fn feed(alloc: Global, seed: u32, chain: u32) -> Result<State, AllocError>
     ensures { IfOk result
         (λ state. state ≡ record {
           name = letter_name 70 chain;
+          label = [];
           initial = 100 + 10 * of_chain seed chain 0 11;
           limits = [];
           price = pos (1 + of_chain seed chain 1 3);
@@ -45,6 +46,7 @@ fn feed(alloc: Global, seed: u32, chain: u32) -> Result<State, AllocError>
     let name = letter_name(alloc, b'F', chain)?;
     Ok(State {
         name,
+        label: List::new(alloc),
         initial: 100 + 10 * u64::from(of_chain(seed, chain, 0, 11)),
         limits: List::new(alloc),
         price: 1 + i64::from(of_chain(seed, chain, 1, 3)),
@@ -58,6 +60,7 @@ fn between(alloc: Global, seed: u32, chain: u32) -> Result<State, AllocError>
     ensures { IfOk result
         (λ state. state ≡ record {
           name = letter_name 73 chain;
+          label = [];
           initial = 0;
           limits = replicate 13 (20 + 10 * of_chain seed chain 2 5);
           price = pos 0;
@@ -69,6 +72,7 @@ fn between(alloc: Global, seed: u32, chain: u32) -> Result<State, AllocError>
     let name = letter_name(alloc, b'I', chain)?;
     Ok(State {
         name,
+        label: List::new(alloc),
         initial: 0,
         limits,
         price: 0,
@@ -82,6 +86,7 @@ fn product(alloc: Global, seed: u32, chain: u32) -> Result<State, AllocError>
     ensures { IfOk result
         (λ state. state ≡ record {
           name = letter_name 80 chain;
+          label = [];
           initial = 0;
           limits = [];
           price = pos (10 + of_chain seed chain 4 11);
@@ -91,6 +96,7 @@ fn product(alloc: Global, seed: u32, chain: u32) -> Result<State, AllocError>
     let name = letter_name(alloc, b'P', chain)?;
     Ok(State {
         name,
+        label: List::new(alloc),
         initial: 0,
         limits: List::new(alloc),
         price: 10 + i64::from(of_chain(seed, chain, 4, 11)),
@@ -116,6 +122,8 @@ fn bare_task(alloc: Global) -> Task
 {
     Task {
         name: List::new(alloc),
+        label: List::new(alloc),
+        colour: List::new(alloc),
         quantum: 5,
         inputs: List::new(alloc),
         outputs: List::new(alloc),

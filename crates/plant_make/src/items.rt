@@ -3,7 +3,7 @@ ghost use Rattle.std.specs.Prelude.{◌≡◌};
 ghost use Rattle.stn_model.specs.Sound.{SoundState, SoundUtility, SoundUnit, SoundRun, SoundGap, SoundReceipt, SoundDelivery, SoundOutage};
 ghost use Rattle.plant_make.specs.Printed.{state_entries, utility_entries, unit_entries, run_entries, gap_entries, receipt_entries, delivery_entries, outage_entries};
 
-use crate::naming::{put_last, put_name, put_state, put_task, put_unit};
+use crate::naming::{put_label, put_last, put_name, put_state, put_task, put_unit};
 use crate::rows::Row;
 use crate::table::{put, put_some};
 use crate::values::{number_value, put_limits, put_rates, short_value, until_value};
@@ -21,6 +21,7 @@ impl Row for State {
     #[tactic(auto, unfolding(crate::specs::Printed::state_entries))]
     fn put_keys(&self, alloc: Global, _plant: &Plant, _quantum: u32, table: &mut Table) -> Written {
         put_name(alloc, table, KeyName::Name, self.name.as_slice())?;
+        put_label(alloc, table, self.label.as_slice())?;
         let initial = number_value(self.initial);
         put(alloc, table, KeyName::Initial, initial)?;
         put_limits(alloc, table, self.limits.as_slice())?;
@@ -39,6 +40,7 @@ impl Row for Utility {
     #[tactic(auto, unfolding(crate::specs::Printed::utility_entries))]
     fn put_keys(&self, alloc: Global, _plant: &Plant, _quantum: u32, table: &mut Table) -> Written {
         put_name(alloc, table, KeyName::Name, self.name.as_slice())?;
+        put_label(alloc, table, self.label.as_slice())?;
         put_limits(alloc, table, self.limits.as_slice())?;
         put_rates(alloc, table, self)
     }
@@ -52,6 +54,7 @@ impl Row for StnUnit {
     #[tactic(auto, unfolding(crate::specs::Printed::unit_entries))]
     fn put_keys(&self, alloc: Global, plant: &Plant, _quantum: u32, table: &mut Table) -> Written {
         put_name(alloc, table, KeyName::Name, self.name.as_slice())?;
+        put_label(alloc, table, self.label.as_slice())?;
         put_last(alloc, table, plant, self.last)?;
         put_some(alloc, table, KeyName::Until, until_value(self.last))
     }

@@ -3,6 +3,7 @@
 //! What `put_plant` appends is a text that means the plant, and that `read_plant` reads as the plant.
 #![tactic(auto)]
 
+mod calendar;
 mod chains;
 mod items;
 mod made;

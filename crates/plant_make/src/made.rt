@@ -56,7 +56,12 @@ fn units(alloc: Global, units: &mut List<StnUnit>) -> Written
 {
     for unit in 0..3 {
         let name = letter_name(alloc, b'U', unit)?;
-        units.push(StnUnit { name, last: None })?;
+        let label = List::new(alloc);
+        units.push(StnUnit {
+            name,
+            label,
+            last: None,
+        })?;
     }
     Ok(())
 }
@@ -112,6 +117,7 @@ fn steam(alloc: Global, seed: u32, chains: u32) -> Result<Utility, AllocError>
     let limit = 12 + u64::from(number_at(seed, 15 * chains, 9));
     Ok(Utility {
         name: copied(alloc, b"steam")?,
+        label: List::new(alloc),
         limits: repeated(alloc, limit, PERIODS)?,
         rate: 1,
         rates: List::new(alloc),
@@ -125,6 +131,7 @@ fn bare_plant(alloc: Global) -> Plant
     Plant {
         large: false,
         periods: PERIODS,
+        calendar: None,
         states: List::new(alloc),
         utilities: List::new(alloc),
         units: List::new(alloc),

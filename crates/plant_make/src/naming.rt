@@ -1,9 +1,11 @@
-//! Names in tables: of a record itself, and of the things that it names by number.
+//! Names in tables: of a record itself, and of the things that it names by number. Labels and colours.
 ghost use Rattle.std.specs.Prelude.{◌≡◌, ◌<◌, Some, IfSome, IfOk, OnOk, IsTrue, length};
+ghost use Rattle.std.specs.Str.{IsUtf8};
 ghost use Rattle.toml.specs.Data.{string};
 ghost use Rattle.toml.specs.View.{view, table_view};
 ghost use Rattle.stn_model.specs.Sound.{Sound, SoundLast, is_name};
-ghost use Rattle.plant_make.specs.Entries.{with_entry};
+ghost use Rattle.stn_model.specs.Labels.{SoundLabel, SoundColour};
+ghost use Rattle.plant_make.specs.Entries.{with_entry, some_text};
 ghost use Rattle.plant_make.specs.Printed.{state_name, utility_name, unit_name, task_name, last_name};
 
 use crate::table::put;
@@ -13,12 +15,12 @@ use std::alloc::{AllocError, Global};
 use stn_model::{Last, Plant};
 use toml::{Table, Value};
 
-/// A name as a text.
-fn name_value(alloc: Global, name: &[u8]) -> Result<Value, AllocError>
-    requires { IsTrue (is_name name.now) }
-    ensures { IfOk result (λ v. view v ≡ string name.now) }
+/// Bytes as a text.
+fn text_value(alloc: Global, bytes: &[u8]) -> Result<Value, AllocError>
+    requires { IsUtf8 bytes.now }
+    ensures { IfOk result (λ v. view v ≡ string bytes.now) }
 {
-    match std::str::from_utf8(name) {
+    match std::str::from_utf8(bytes) {
         Ok(text) => Value::string(alloc, text),
         Err(_) => unreachable!(),
     }
@@ -30,8 +32,39 @@ pub fn put_name(alloc: Global, table: &mut Table, key: KeyName, name: &[u8]) -> 
     ensures { OnOk result (table_view table.new ≡ with_entry (table_view table.old)
         (key, Some (string name.now))) }
 {
-    let value = name_value(alloc, name)?;
+    let value = text_value(alloc, name)?;
     put(alloc, table, key, value)
+}
+
+/// Puts a key with a text, where it is not empty.
+fn put_text(alloc: Global, table: &mut Table, key: KeyName, text: &[u8]) -> Written
+    requires { IsUtf8 text.now }
+    ensures { OnOk result (table_view table.new ≡ with_entry (table_view table.old)
+        (key, some_text text.now)) }
+{
+    if text.is_empty() {
+        return Ok(());
+    }
+    let value = text_value(alloc, text)?;
+    put(alloc, table, key, value)
+}
+
+/// Puts the label of a record, where it has one.
+pub fn put_label(alloc: Global, table: &mut Table, label: &[u8]) -> Written
+    requires { SoundLabel label.now }
+    ensures { OnOk result (table_view table.new ≡ with_entry (table_view table.old)
+        (KeyName.Label, some_text label.now)) }
+{
+    put_text(alloc, table, KeyName::Label, label)
+}
+
+/// Puts the colour of a task, where it has one.
+pub fn put_colour(alloc: Global, table: &mut Table, colour: &[u8]) -> Written
+    requires { SoundColour colour.now }
+    ensures { OnOk result (table_view table.new ≡ with_entry (table_view table.old)
+        (KeyName.Colour, some_text colour.now)) }
+{
+    put_text(alloc, table, KeyName::Colour, colour)
 }
 
 /// Puts the name of a state of the plant.

@@ -8,6 +8,7 @@ ghost use Rattle.plant_make.specs.Entries.{table_of, with_entry};
 ghost use Rattle.plant_make.specs.Printed.{plant_entries};
 ghost use Rattle.plant_make.specs.Meaning.{Puts};
 
+use crate::calendar::put_calendar;
 use crate::rows::put_rows;
 use crate::table::put;
 use crate::values::short_value;
@@ -39,6 +40,7 @@ fn put_plant_keys(alloc: Global, plant: &Plant, table: &mut Table) -> Written
         short_value(version_of(plant)),
     )?;
     put(alloc, table, KeyName::Periods, short_value(plant.periods))?;
+    put_calendar(alloc, table, plant.calendar)?;
     put_rows(alloc, table, KeyName::State, plant, 0, &plant.states)?;
     put_rows(alloc, table, KeyName::Utility, plant, 0, &plant.utilities)?;
     put_rows(alloc, table, KeyName::StnUnit, plant, 0, &plant.units)?;
@@ -62,7 +64,7 @@ fn document(alloc: Global, plant: &Plant) -> Result<Table, AllocError>
     Ok(table)
 }
 
-// The text of a plant's document. The document has no date, so want of memory is the only error.
+// The text of a plant's document. Its date is one that can be printed, so want of memory is the only error.
 fn text_of(alloc: Global, plant: &Plant) -> Result<String, AllocError>
     requires { Sound plant.now }
     ensures parsed { IfOk result (λ text. parse_document (string_bytes text)
@@ -80,7 +82,8 @@ fn text_of(alloc: Global, plant: &Plant) -> Result<String, AllocError>
 /// Appends a plant file that means the plant: of version 3 where it is large, else of version 2.
 ///
 /// A list of limits that are all the same is written as one `limit`, and parts are written in lowest
-/// terms. After want of memory `into` is as before.
+/// terms; a label or a colour that is empty is left out, and so are the keys of a calendar where there is
+/// none. After want of memory `into` is as before.
 pub fn put_plant(alloc: Global, plant: &Plant, into: &mut Vec<u8>) -> Result<(), AllocError>
     requires { Sound plant.now }
 

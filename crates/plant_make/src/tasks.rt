@@ -4,7 +4,7 @@ ghost use Rattle.stn_model.specs.Plant.{duration_of};
 ghost use Rattle.stn_model.specs.Sound.{SoundTask, SoundInput, SoundOutput, SoundDraw};
 ghost use Rattle.plant_make.specs.Printed.{task_entries, input_entries, output_entries, draw_entries};
 
-use crate::naming::{put_name, put_state, put_utility};
+use crate::naming::{put_colour, put_label, put_name, put_state, put_utility};
 use crate::rows::{Row, put_rows};
 use crate::table::put;
 use crate::values::{part_value, short_value, shorts_value};
@@ -65,6 +65,8 @@ impl Row for Task {
     fn put_keys(&self, alloc: Global, plant: &Plant, _quantum: u32, table: &mut Table) -> Written {
         let quantum = self.quantum;
         put_name(alloc, table, KeyName::Name, self.name.as_slice())?;
+        put_label(alloc, table, self.label.as_slice())?;
+        put_colour(alloc, table, self.colour.as_slice())?;
         put(alloc, table, KeyName::Quantum, short_value(quantum))?;
         put_rows(alloc, table, KeyName::Input, plant, quantum, &self.inputs)?;
         put_rows(alloc, table, KeyName::Output, plant, quantum, &self.outputs)?;

@@ -10,4 +10,5 @@ pub mod SlotRows
 pub mod Passed
 pub mod SoundItems
 pub mod SoundTasks
+pub mod SoundCalendar
 pub mod SoundPlant

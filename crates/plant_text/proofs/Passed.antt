@@ -1,5 +1,5 @@
 -- What tests that pass say of the values that they test.
-use Rattle.std.proofs.Common.{◌≡◌, ℤ, pos, negsuc, ℕ, ◌+◌, ◌<◌, ◌≤◌, ◌≤ℤ◌, int_le, Bool, true, false, not, List, [], ◌∷◌, ◌++◌, map, length, get_or, AllPairs, Option, Some, None, is_none, option_map, unwrap_or, unsigned_abs, IsTrue, append_assoc, refl, sym, ◌∙◌, arith}
+use Rattle.std.proofs.Common.{◌≡◌, ℤ, pos, negsuc, ℕ, ◌+◌, ◌<◌, ◌≤◌, ◌≤ℤ◌, int_le, Bool, true, false, not, List, [], ◌∷◌, ◌++◌, map, length, get_or, AllPairs, Option, Some, None, is_none, option_map, unwrap_or, unsigned_abs, IsTrue, append_assoc, refl, sym, ◌∙◌, inl, inr, arith}
 use Rattle.std.specs.Option.{option_or}
 use Rattle.std.specs.List.{AllByRecursion}
 use Rattle.std.proofs.lemmas.Bool.{and_parts, eqb-true, leb-true}
@@ -8,12 +8,13 @@ use Rattle.std.proofs.lemmas.List.{append-nil, length-map}
 use Rattle.std.proofs.lemmas.List.Quantifiers.{all_pairs_push}
 use Rattle.toml.specs.Data.{Data}
 use Rattle.stn_model.specs.Sound.{Within, is_name}
+use Rattle.stn_model.specs.Labels.{SoundLabel, SoundColour}
 use Rattle.plant_text.specs.declared.fault.PlantFault.{PlantFault}
 use Rattle.plant_text.specs.declared.fault.Place.{Place}
 use Rattle.plant_text.specs.declared.fault.KeyName.{KeyName}
 use Rattle.plant_text.specs.declared.find.Key.{Key}
 use Rattle.plant_text.specs.Tests.{Test, first_fault, rows_tests, numbered_tests}
-use Rattle.plant_text.specs.Fields.{Kind, declares, refers, count, money, moment, numbers, amounts, Places, is_within, is_between, is_before, natural, count_of, integer_of, text_of, items_of, numbers_of, amounts_of, place_of, count_tests, money_tests, list_tests, kind_tests, value_tests}
+use Rattle.plant_text.specs.Fields.{Kind, declares, refers, label, colour, count, money, time, numbers, amounts, Places, is_within, is_between, is_before, natural, count_of, integer_of, text_of, items_of, numbers_of, amounts_of, place_of, count_tests, money_tests, list_tests, kind_tests, value_tests}
 use Rattle.plant_text.proofs.Faults.{faults_append}
 
 -- no test of the list holds
@@ -90,7 +91,7 @@ between : (low high z : ℤ) → is_between low high z ≡ true → InSpan low h
 between low high z e = let p = and_parts (int_le low z) (int_le z high) e in record { early = grind (arith, ints, p.0); late = grind (arith, ints, p.1) }
 
 -- a time that may be absent is within its range
-pub time_within : (place : Place) (key : Key) (alone : Bool) (low high : ℤ) (o : Option Data) → low ≤ℤ pos 0 → pos 0 ≤ℤ high → Pass (value_tests place key (moment alone low high) o)
+pub time_within : (place : Place) (key : Key) (alone : Bool) (low high : ℤ) (o : Option Data) → low ≤ℤ pos 0 → pos 0 ≤ℤ high → Pass (value_tests place key (time alone low high) o)
     → InSpan low high (unwrap_or (option_map integer_of o) (pos 0))
 unfolding value_tests kind_tests
 time_within place key alone low high None before after e = record { early = before; late = after }
@@ -109,6 +110,23 @@ name_declared place key places number (Some d) required e =
     let b = first_pass _ _ _ a.1 in
     let c = first_pass _ _ _ b.1 in
     (not_false _ b.0, c.0)
+
+-- a label that may be absent is one where it is there, and so with a colour
+pub label_sound : (place : Place) (key : Key) (o : Option Data) → Pass (value_tests place key label o) → SoundLabel (unwrap_or (option_map text_of o) [])
+unfolding value_tests kind_tests
+label_sound place key None e = inl refl
+label_sound place key (Some d) e =
+    let a = first_pass _ _ _ e in
+    let b = first_pass _ _ _ a.1 in
+    inr (not_false _ b.0)
+
+pub colour_sound : (place : Place) (key : Key) (o : Option Data) → Pass (value_tests place key colour o) → SoundColour (unwrap_or (option_map text_of o) [])
+unfolding value_tests kind_tests
+colour_sound place key None e = inl refl
+colour_sound place key (Some d) e =
+    let a = first_pass _ _ _ e in
+    let b = first_pass _ _ _ a.1 in
+    inr (not_false _ b.0)
 
 -- a row whose value says nothing more
 pub tested : (place : Place) (key : Key) (kind : Kind) (o : Option Data) → Pass (value_tests place key kind o) → Unit {0}

@@ -14,11 +14,12 @@ use Rattle.stn_model.specs.Sound.{SoundState, SoundUtility, SoundLast, SoundUnit
 use Rattle.plant_text.specs.declared.fault.Place.{Place}
 use Rattle.plant_text.specs.declared.find.Key.{Key}
 use Rattle.plant_text.specs.declared.fault.KeyName.TheVariants as key
-use Rattle.plant_text.specs.Fields.{held, members_of, since, count, moment, numbers, amounts, count_of, integer_of, numbers_of, amounts_of, text_of, place_of, value_tests}
+use Rattle.plant_text.specs.Fields as kind
+use Rattle.plant_text.specs.Fields.{held, members_of, since, count, numbers, amounts, count_of, integer_of, numbers_of, amounts_of, text_of, place_of, value_tests}
 use Rattle.plant_text.specs.Scope.{Scope}
 use Rattle.plant_text.specs.Tables.{limits_in, state_fields, state_tests, state_of, utility_fields, utility_tests, utility_of, unit_fields, is_there as is_there_at, unit_place, unit_tests, unit_of, is_stray, last_tests, run_fields, run_tests, run_more_tests, run_of, gap_fields, gap_tests, gap_of, receipt_fields, receipt_tests, receipt_of, delivery_fields, delivery_tests, delivery_of, outage_fields, outage_tests, outage_more_tests, outage_of}
 use Rattle.plant_text.proofs.Limits.{under, few_of}
-use Rattle.plant_text.proofs.Passed.{Pass, Below, AreNumbers, first_pass, both_pass, count_needed, count_most, money_most, time_within, is_there, name_declared, refers_below, numbers_there, amounts_there, tested, not_false, absent}
+use Rattle.plant_text.proofs.Passed.{Pass, Below, AreNumbers, first_pass, both_pass, count_needed, count_most, money_most, time_within, is_there, name_declared, label_sound, refers_below, numbers_there, amounts_there, tested, not_false, absent}
 
 -- a number that is repeated is at most the bound that it keeps
 all_repeated : (most n : ℕ) → n ≤ most → (many : ℕ) → AllByRecursion (λ k. k ≤ most) (replicate many n)
@@ -61,7 +62,8 @@ unfolding state_tests state_fields state_of
 state_sound scope number d e =
     let head = both_pass _ _ e in
     let name = both_pass _ _ head.1 in
-    let initial = both_pass _ _ name.1 in
+    let label = both_pass _ _ name.1 in
+    let initial = both_pass _ _ label.1 in
     let limit = both_pass _ _ initial.1 in
     let limits = both_pass _ _ limit.1 in
     let price = both_pass _ _ limits.1 in
@@ -70,6 +72,7 @@ state_sound scope number d e =
     let times : scope.periods + 1 ≡ suc scope.periods = omega arith in
     record {
       name = (name_declared _ _ _ _ _ refl name.0).0;
+      label = label_sound _ _ _ label.0;
       initial = count_most _ _ _ _ initial.0;
       limits = elim kept.0 [ inl none ↦ inl none | inr all ↦ inr (all ∙ times) ];
       limit = All-from_recursion (λ n. n ≤ 1000000000) _ kept.1;
@@ -82,7 +85,8 @@ unfolding utility_tests utility_fields utility_of
 utility_sound scope number d e =
     let head = both_pass _ _ e in
     let name = both_pass _ _ head.1 in
-    let limit = both_pass _ _ name.1 in
+    let label = both_pass _ _ name.1 in
+    let limit = both_pass _ _ label.1 in
     let limits = both_pass _ _ limit.1 in
     let rate = both_pass _ _ limits.1 in
     let rates = both_pass _ _ rate.1 in
@@ -90,6 +94,7 @@ utility_sound scope number d e =
     let paid = rates_maybe _ _ _ _ _ _ rates.0 in
     record {
       name = (name_declared _ _ _ _ _ refl name.0).0;
+      label = label_sound _ _ _ label.0;
       limits = kept.many;
       limit = All-from_recursion (λ n. n ≤ 1000000000) _ kept.most;
       rate = money_most _ _ _ _ rate.0;
@@ -99,7 +104,7 @@ utility_sound scope number d e =
 
 -- the batch that held a unit last: its task is declared, and its end is in its range
 last_sound : (scope : Scope) (plant : Plant) (place : Place) (key : Key) (alone : Bool) (name ends : Option Data) → Below (length plant.tasks) scope.tasks → plant.periods ≡ scope.periods
-    → is_stray scope.tasks name ≡ false → Pass (value_tests place key (moment alone (negsuc 335) (pos scope.periods)) ends)
+    → is_stray scope.tasks name ≡ false → Pass (value_tests place key (kind.time alone (negsuc 335) (pos scope.periods)) ends)
     → IfSome (option_map (λ (number : ℕ). let last : Last = record { task = number; until = unwrap_or (option_map integer_of ends) (pos 0) } in last) (option_map (place_of scope.tasks) name)) (SoundLast plant)
 last_sound scope plant place key alone None ends tasks horizon declared e = tt
 last_sound scope plant place key alone (Some d) ends tasks horizon declared e =
@@ -113,12 +118,14 @@ unfolding unit_tests unit_fields unit_of last_tests
 unit_sound scope plant tasks horizon number place d e f =
     let head = both_pass _ _ e in
     let name = both_pass _ _ head.1 in
-    let last = both_pass _ _ name.1 in
+    let label = both_pass _ _ name.1 in
+    let last = both_pass _ _ label.1 in
     let word = tested _ _ _ _ last.0 in
     let until = both_pass _ _ last.1 in
     let declared = first_pass _ _ _ f in
     record {
       name = (name_declared _ _ _ _ _ refl name.0).0;
+      label = label_sound _ _ _ label.0;
       last = last_sound scope plant (unit_place number) (since scope.third key.Until) (not (is_there_at (members_of d) key.Last)) (held (members_of d) (since scope.third key.Last)) (held (members_of d) (since scope.third key.Until)) tasks horizon declared.0 until.0;
     }
 

@@ -26,14 +26,15 @@ use Rattle.stn_model.specs.declared.plant.Run.{Run}
 use Rattle.stn_model.specs.declared.plant.Gap.{Gap}
 use Rattle.stn_model.specs.Sound.{SoundState, SoundUtility, SoundUnit, SoundTask, SoundRun, SoundGap, SoundReceipt, SoundDelivery, SoundOutage}
 use Rattle.plant_text.specs.declared.fault.KeyName.TheVariants as key
-use Rattle.plant_text.specs.Fields.{fields_tests, value_tests, count, count_of, at_key, held, items_at, needed, optional, since}
+use Rattle.plant_text.specs.Fields.{fields_tests, value_tests, moment, count, count_of, at_key, held, items_at, needed, optional, since, beside}
 use Rattle.plant_text.specs.Scope.{Scope}
 use Rattle.plant_text.specs.Tables.{state_fields, state_tests, state_of, utility_fields, utility_tests, utility_of, unit_fields, unit_tests, unit_of, last_tests, task_fields, task_tests, task_of, has_run, run_tests, run_more_tests, run_of, gap_of, receipt_of, delivery_of, outage_of}
-use Rattle.plant_text.specs.Document.{top_place, version_of, is_second, is_third, scope_in, size_fields, named_fields, referring_fields, lasts_tests, plant_with, plant_in, size_tests, unknown_tests, document_tests, document_of, plant_tests, plant_of}
+use Rattle.plant_text.specs.Document.{top_place, version_of, is_second, is_third, scope_in, size_fields, has_third, calendar_fields, named_fields, referring_fields, lasts_tests, plant_with, plant_in, size_tests, unknown_tests, document_tests, document_of, plant_tests, plant_of}
 use Rattle.plant_text.proofs.SoundItems.{state_sound, utility_sound, unit_sound, no_last, run_sound, gap_short, gap_sound, receipt_sound, delivery_sound, outage_sound}
 use Rattle.plant_text.proofs.Faults.{nothing}
 use Rattle.plant_text.proofs.Limits.{under, few_of}
 use Rattle.plant_text.proofs.SoundTasks.{tables_passes, task_sound}
+use Rattle.plant_text.proofs.SoundCalendar.{calendar_sound, no_calendar}
 use Rattle.plant_text.proofs.Passed.{Pass, Below, first_pass, both_pass, count_needed, name_declared, rows_all, rows_both, rows_pairs}
 
 some_same : (a b : ℕ) → Some a ≡ Some b → a ≡ b
@@ -175,6 +176,32 @@ no_lasts : (scope : Scope) → scope.third ≡ false → (ds : List Data) → Al
 no_lasts scope not_third [] = tt
 no_lasts scope not_third (d ∷ ds) = (no_last scope not_third d, no_lasts scope not_third ds)
 
+-- nor has anything of such a file a label or a colour
+no_state_labels : (scope : Scope) → scope.third ≡ false → (ds : List Data) → AllByRecursion (λ (s : State). s.label ≡ []) (map (state_of scope) ds)
+unfolding state_of
+no_state_labels scope not_third [] = tt
+no_state_labels scope not_third (d ∷ ds) = (rw not_third refl, no_state_labels scope not_third ds)
+
+no_utility_labels : (scope : Scope) → scope.third ≡ false → (ds : List Data) → AllByRecursion (λ (u : Utility). u.label ≡ []) (map (utility_of scope) ds)
+unfolding utility_of
+no_utility_labels scope not_third [] = tt
+no_utility_labels scope not_third (d ∷ ds) = (rw not_third refl, no_utility_labels scope not_third ds)
+
+no_unit_labels : (scope : Scope) → scope.third ≡ false → (ds : List Data) → AllByRecursion (λ (u : StnUnit). u.label ≡ []) (map (unit_of scope) ds)
+unfolding unit_of
+no_unit_labels scope not_third [] = tt
+no_unit_labels scope not_third (d ∷ ds) = (rw not_third refl, no_unit_labels scope not_third ds)
+
+no_task_labels : (scope : Scope) → scope.third ≡ false → (ds : List Data) → AllByRecursion (λ (t : Task). t.label ≡ []) (map (task_of scope) ds)
+unfolding task_of
+no_task_labels scope not_third [] = tt
+no_task_labels scope not_third (d ∷ ds) = (rw not_third refl, no_task_labels scope not_third ds)
+
+no_colours : (scope : Scope) → scope.third ≡ false → (ds : List Data) → AllByRecursion (λ (t : Task). t.colour ≡ []) (map (task_of scope) ds)
+unfolding task_of
+no_colours scope not_third [] = tt
+no_colours scope not_third (d ∷ ds) = (rw not_third refl, no_colours scope not_third ds)
+
 within_either : (second : Bool) (n : ℕ) → Within 1 (cond second 336 96) n → Within 1 336 n
 within_either true n h = h
 within_either false n h = (h.0, omega (arith, h.1))
@@ -186,13 +213,18 @@ plant_sound document e =
     let plant = plant_in document in
     let known = both_pass (unknown_tests document) _ e in
     let sizes = both_pass (fields_tests top_place document (size_fields (is_second document) (is_third document))) _ known.1 in
-    let named = both_pass (fields_tests top_place document (named_fields scope)) _ sizes.1 in
+    let timed = both_pass (fields_tests top_place document (calendar_fields (is_third document) document)) _ sizes.1 in
+    let named = both_pass (fields_tests top_place document (named_fields scope)) _ timed.1 in
     let lasts = both_pass (lasts_tests scope document) _ named.1 in
     let referring = both_pass (fields_tests top_place document (referring_fields scope)) (size_tests plant) lasts.1 in
     let number = version_of (is_second document) (is_third document) in
     let most = cond (is_second document) 336 96 in
     let version = both_pass (value_tests top_place (needed key.Version) (count number number) (held document (needed key.Version))) (value_tests top_place (needed key.Periods) (count 1 most) (held document (needed key.Periods)) ++ []) sizes.0 in
     let periods = both_pass (value_tests top_place (needed key.Periods) (count 1 most) (held document (needed key.Periods))) [] version.1 in
+    let start_key = beside (is_third document) (has_third (is_third document) document key.Minutes) key.Start in
+    let minutes_key = beside (is_third document) (has_third (is_third document) document key.Start) key.Minutes in
+    let start = both_pass (value_tests top_place start_key moment (held document start_key)) (value_tests top_place minutes_key (count 1 10080) (held document minutes_key) ++ []) timed.0 in
+    let minutes = both_pass (value_tests top_place minutes_key (count 1 10080) (held document minutes_key)) [] start.1 in
     let state = both_pass _ _ named.0 in
     let utility = both_pass _ _ state.1 in
     let unit = both_pass _ _ utility.1 in
@@ -245,6 +277,7 @@ plant_sound document e =
         slots = under third 512 4096 _ (omega arith) slots_few;
         gap_pairs = under third 8192 32768 _ (omega arith) pairs_few;
       };
+      calendar = calendar_sound top_place start_key minutes_key (held document start_key) (held document minutes_key) refl start.0 minutes.0;
       small = λ not_third. record {
         states = omega (arith, state_count, few_of third 40 160 _ not_third states.few);
         utilities = omega (arith, utility_count, few_of third 8 64 _ not_third utilities.few);
@@ -259,6 +292,14 @@ plant_sound document e =
         rates = All-from_recursion (λ (u : Utility). u.rates ≡ []) _ (no_rates scope not_third _);
         gaps = All-from_recursion (λ (g : Gap). g.periods ≤ 96) _ (rows_all _ (gap_of scope) (λ (g : Gap). g.periods ≤ 96) (λ earlier d h. gap_short scope not_third (length earlier) d h) [] _ gaps.pass);
         lasts = All-from_recursion (λ (u : StnUnit). u.last ≡ None) _ (no_lasts scope not_third _);
+        unlabelled = record {
+          calendar = no_calendar third not_third document;
+          states = All-from_recursion (λ (s : State). s.label ≡ []) _ (no_state_labels scope not_third _);
+          utilities = All-from_recursion (λ (u : Utility). u.label ≡ []) _ (no_utility_labels scope not_third _);
+          units = All-from_recursion (λ (u : StnUnit). u.label ≡ []) _ (no_unit_labels scope not_third _);
+          tasks = All-from_recursion (λ (t : Task). t.label ≡ []) _ (no_task_labels scope not_third _);
+          colours = All-from_recursion (λ (t : Task). t.colour ≡ []) _ (no_colours scope not_third _);
+        };
       };
       names = record {
         states = names_own (λ (s : State). s.name) (state_of scope) (state_names scope) (λ earlier d. state_tests scope (length earlier) d) _ (cond third 160 40) states.few (λ earlier d h. state_fresh scope (length earlier) d h) states.pass;

@@ -24,7 +24,7 @@ use Rattle.plant_text.specs.Fields.{count, tables, held, items_of, items_at, mem
 use Rattle.plant_text.specs.declared.fault.KeyName.TheVariants as key
 use Rattle.plant_text.specs.Scope.{Scope}
 use Rattle.plant_text.specs.Tables.{is_output, side_fields, side_tests, side_of, output_of, input_of, whole_tests, share_tests, sides_tests, draw_fields, draw_tests, draw_of, owner_in, quantum_in, outputs_of, drawer_in, task_fields, task_tests, task_of}
-use Rattle.plant_text.proofs.Passed.{Pass, Below, first_pass, both_pass, count_needed, name_declared, refers_below, numbers_needed, rows_all, not_false, absent, tested}
+use Rattle.plant_text.proofs.Passed.{Pass, Below, first_pass, both_pass, count_needed, name_declared, label_sound, colour_sound, refers_below, numbers_needed, rows_all, not_false, absent, tested}
 use Rattle.plant_text.proofs.Shares.{side_proper}
 use Rattle.plant_text.proofs.Faults.{nothing}
 
@@ -167,7 +167,9 @@ task_sound scope plant number d states utilities e =
     let quantum = quantum_in inside in
     let head = both_pass _ _ e in
     let name = both_pass _ _ head.1 in
-    let size = both_pass _ _ name.1 in
+    let label = both_pass _ _ name.1 in
+    let colour = both_pass _ _ label.1 in
+    let size = both_pass _ _ colour.1 in
     let input = both_pass _ _ size.1 in
     let output = both_pass _ _ input.1 in
     let draw = both_pass _ _ output.1 in
@@ -192,6 +194,8 @@ task_sound scope plant number d states utilities e =
     rw inputs_are
     record {
       name = (name_declared _ _ _ _ _ refl name.0).0;
+      label = label_sound _ _ _ label.0;
+      colour = colour_sound _ _ _ colour.0;
       quantum = small;
       inputs = (some_there (λ (input : Input). input.amount) (map (λ side. input_of (output_of quantum side)) in_sides) quantum in_sum small.0, omega (arith, length-map in_sides (λ side. input_of (output_of quantum side)), length-map in_ds (side_of scope false), ins_few));
       outputs = (some_there (λ (output : Output). output.amount) (map (output_of quantum) out_sides) quantum out_sum small.0, omega (arith, length-map out_sides (output_of quantum), length-map out_ds (side_of scope true), outs_few));

@@ -1,9 +1,10 @@
 -- A plant file as a whole: its document, its tests in order, and its plant.
-use Rattle.std.specs.Prelude.{◌≡◌, ℕ, ◌==◌, ◌||◌, Bool, nat_lt, if◌then◌else◌, List, [], ◌∷◌, ◌++◌, length, map, take, Option, None, is_none, unwrap_or}
+use Rattle.std.specs.Prelude.{◌≡◌, ℕ, ◌==◌, ◌||◌, Bool, nat_lt, if◌then◌else◌, List, [], ◌∷◌, ◌++◌, length, map, take, Option, None, is_none, is_some, option_map, unwrap_or}
 use Rattle.std.specs.Str.{is_utf8}
 use Rattle.toml.specs.Data.{Data, Members, no_members}
 use Rattle.toml.specs.Parse.{parse_document}
 use Rattle.stn_model.specs.declared.plant.Plant.{Plant}
+use Rattle.stn_model.specs.declared.plant.Calendar.{Calendar}
 use Rattle.stn_model.specs.declared.plant.State.{State}
 use Rattle.stn_model.specs.declared.plant.Utility.{Utility}
 use Rattle.stn_model.specs.declared.plant.StnUnit.{StnUnit}
@@ -21,7 +22,8 @@ use Rattle.plant_text.specs.declared.fault.TableName.TheVariants as table
 use Rattle.plant_text.specs.declared.fault.KeyName.{KeyName}
 use Rattle.plant_text.specs.declared.fault.KeyName.TheVariants as key
 use Rattle.plant_text.specs.Tests.{Test, rows_tests, numbered_tests}
-use Rattle.plant_text.specs.Fields.{fault, Field, row, needed, optional, since, count, tables, at_key, count_of, items_at, has_unknown, keys_of, fields_tests, Places}
+use Rattle.plant_text.specs.Fields.{fault, Field, row, needed, optional, since, beside, count, moment, tables, held, at_key, count_of, items_at, has_unknown, keys_of, fields_tests, Places}
+use Rattle.plant_text.specs.Moments.{moment_of}
 use Rattle.plant_text.specs.Names.{name_in, first_places}
 use Rattle.plant_text.specs.Scope.{Scope}
 use Rattle.plant_text.specs.Tables.{state_tests, state_of, utility_tests, utility_of, unit_tests, unit_of, last_tests, task_tests, task_of, run_tests, run_of, gap_tests, gap_of, receipt_tests, receipt_of, delivery_tests, delivery_of, outage_tests, outage_of}
@@ -68,6 +70,22 @@ size_fields second third =
     row (needed key.Version) (count (version_of second third) (version_of second third))
     ∷ row (needed key.Periods) (count 1 (if second then 336 else 96)) ∷ []
 
+-- the document has a key of version 3
+abbrev pub has_third : Bool → Members → KeyName → Bool
+has_third third document name = is_some (held document (since third name))
+
+-- then the calendar: when the horizon begins, and how many minutes a period takes; each needs the other
+abbrev pub calendar_fields : Bool → Members → List Field
+calendar_fields third document =
+    row (beside third (has_third third document key.Minutes) key.Start) moment
+    ∷ row (beside third (has_third third document key.Start) key.Minutes) (count 1 10080) ∷ []
+
+-- the calendar of the document: it has one where it tells when the horizon begins
+abbrev pub calendar_in : Bool → Members → Option Calendar
+calendar_in third document =
+    option_map (λ start. record { start = start; minutes = at_key count_of 0 document (since third key.Minutes) })
+    (option_map moment_of (held document (since third key.Start)))
+
 -- then the arrays of what has a name
 abbrev pub named_fields : Scope → List Field
 named_fields scope =
@@ -113,6 +131,7 @@ unfoldable pub plant_with : Scope → Members → Plant
 plant_with scope document = record {
   large = scope.third;
   periods = scope.periods;
+  calendar = calendar_in scope.third document;
   states = map (state_of scope) (items_at document (optional key.State));
   utilities = map (utility_of scope) (items_at document (optional key.Utility));
   units = map (unit_of scope) (items_at document (optional key.StnUnit));
@@ -137,17 +156,18 @@ size_tests plant =
 -- the tests of the keys at the top
 unfoldable pub unknown_tests : Members → List Test
 unknown_tests document =
-    (has_unknown (keys_of (size_fields (is_second document) (is_third document) ++ (named_fields (scope_in document) ++ referring_fields (scope_in document)))) document, fault 3 top_place key.Whole) ∷ []
+    (has_unknown (keys_of (size_fields (is_second document) (is_third document) ++ (calendar_fields (is_third document) document ++ (named_fields (scope_in document) ++ referring_fields (scope_in document))))) document, fault 3 top_place key.Whole) ∷ []
 
 -- the tests of a document, in their order
 unfoldable pub document_tests : Members → List Test
 document_tests document =
     unknown_tests document
     ++ (fields_tests top_place document (size_fields (is_second document) (is_third document))
+    ++ (fields_tests top_place document (calendar_fields (is_third document) document)
     ++ (fields_tests top_place document (named_fields (scope_in document))
     ++ (lasts_tests (scope_in document) document
     ++ (fields_tests top_place document (referring_fields (scope_in document))
-    ++ size_tests (plant_in document)))))
+    ++ size_tests (plant_in document))))))
 
 -- the longest plant file, in bytes, by whether it is of version 3
 abbrev pub max_bytes : Bool → ℕ

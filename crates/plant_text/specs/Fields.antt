@@ -4,6 +4,7 @@ use Rattle.std.specs.List.{list_any}
 use Rattle.std.specs.Str.{bytes_eq}
 use Rattle.toml.specs.Data.{Data, Items, no_items, item, Members, no_members, member, get_member, as_str, as_integer, as_array, as_table}
 use Rattle.stn_model.specs.Sound.{is_name}
+use Rattle.stn_model.specs.Labels.{is_label, is_colour}
 use Rattle.fraction.specs.declared.fraction_of.Fraction.{Fraction}
 use Rattle.fraction.specs.Fractions.{fraction_in}
 use Rattle.plant_text.specs.declared.fault.PlantFault.{PlantFault}
@@ -13,6 +14,7 @@ use Rattle.plant_text.specs.declared.fault.KeyName.TheVariants as key
 use Rattle.plant_text.specs.declared.find.Key.{Key}
 use Rattle.plant_text.specs.Words.{key_word}
 use Rattle.plant_text.specs.Tests.{Test, rows_tests}
+use Rattle.plant_text.specs.Moments.{moment_in}
 
 -- the fault of a kind at a place and a key
 abbrev pub fault : ℕ → Place → KeyName → PlantFault
@@ -66,6 +68,12 @@ pub data Kind : Type 0 where
   refers : Places → Kind
   -- a text that mentions a name: whether it is declared is looked at later
   mentions : Kind
+  -- a text that is a label
+  label : Kind
+  -- a text that is a colour
+  colour : Kind
+  -- a local date-time in whole seconds
+  moment : Kind
   -- a text that is a fraction of one
   part : Kind
   -- a whole number in a range
@@ -73,7 +81,7 @@ pub data Kind : Type 0 where
   -- a whole number of at most this absolute value
   money : ℕ → Kind
   -- a time between two others: whether it stands alone, without the key that it needs, and the two
-  moment : Bool → ℤ → ℤ → Kind
+  time : Bool → ℤ → ℤ → Kind
   -- an array of numbers: whether another key forbids it, how many, and the most that each may be
   numbers : Bool → ℕ → ℕ → Kind
   -- an array of numbers of at most this absolute value: whether another key forbids it, and how many
@@ -122,12 +130,19 @@ kind_tests place name (refers places) d =
     (is_none (as_str d), fault 6 place name)
     ∷ (is_none (places (text_of d)), fault 10 place name) ∷ []
 kind_tests place name mentions d = (is_none (as_str d), fault 6 place name) ∷ []
+kind_tests place name label d =
+    (is_none (as_str d), fault 6 place name)
+    ∷ (not (is_label (text_of d)), fault 24 place name) ∷ []
+kind_tests place name colour d =
+    (is_none (as_str d), fault 6 place name)
+    ∷ (not (is_colour (text_of d)), fault 25 place name) ∷ []
+kind_tests place name moment d = (is_none (moment_in d), fault 6 place name) ∷ []
 kind_tests place name part d =
     (is_none (as_str d), fault 6 place name)
     ∷ (is_none (fraction_in (text_of d)), fault 11 place name) ∷ []
 kind_tests place name (count low high) d = count_tests place name low high d
 kind_tests place name (money most) d = money_tests place name most d
-kind_tests place name (moment alone low high) d = time_tests place name alone low high d
+kind_tests place name (time alone low high) d = time_tests place name alone low high d
 kind_tests place name (numbers forbidden many most) d = list_tests place name forbidden many (count_tests place name 0 most) count_of d
 kind_tests place name (amounts forbidden many most) d = list_tests place name forbidden many (money_tests place name most) integer_of d
 kind_tests place name (tables most below) d =
@@ -225,6 +240,10 @@ optional name = record { name = name; known = true; required = false }
 
 abbrev pub since : Bool → KeyName → Key
 since known name = record { name = name; known = known; required = false }
+
+-- a key from a version on, which is needed where another is there
+abbrev pub beside : Bool → Bool → KeyName → Key
+beside known there name = record { name = name; known = known; required = there }
 
 -- a row of the field table
 abbrev pub row : Key → Kind → Field

@@ -1,5 +1,6 @@
 pub mod Words
 pub mod Tests
+pub mod Moments
 pub mod Fields
 pub mod Names
 pub mod Scope

@@ -1,6 +1,8 @@
 -- What the tables of a file are read against: its version, its horizon, and the names that it declares.
 use Rattle.std.specs.Prelude.{ℕ, Bool}
+use Rattle.plant_text.specs.declared.fault.TableName.TheVariants as table
 use Rattle.plant_text.specs.declared.scope.Context.{Context}
+use Rattle.plant_text.specs.declared.scope.Owner.{Owner}
 use Rattle.plant_text.specs.Fields.{Places}
 use Rattle.plant_text.specs.Names.{places_in}
 
@@ -26,3 +28,7 @@ scope_of context = record {
   units = places_in context.units;
   tasks = places_in context.tasks;
 }
+
+-- the owner of a table at the top, which stands within no other
+abbrev pub no_owner : Owner
+no_owner = record { table = table.Top; item = 0; duration = 0 }

@@ -25,7 +25,7 @@ use Rattle.plant_text.specs.declared.tables.side.SidePart.{SidePart}
 use Rattle.plant_text.specs.declared.fault.KeyName.{KeyName}
 use Rattle.plant_text.specs.declared.fault.KeyName.TheVariants as key
 use Rattle.plant_text.specs.Tests.{Test, rows_tests}
-use Rattle.plant_text.specs.Fields.{fault, declares, refers, mentions, part, count, money, moment, numbers, amounts, tables, Field, row, needed, optional, since, held, at_key, text_of, count_of, integer_of, numbers_of, amounts_of, Places, place_of, part_of, whole_part, items_at, members_of, table_tests}
+use Rattle.plant_text.specs.Fields.{fault, declares, refers, mentions, label, colour, part, count, money, time, numbers, amounts, tables, Field, row, needed, optional, since, held, at_key, text_of, count_of, integer_of, numbers_of, amounts_of, Places, place_of, part_of, whole_part, items_at, members_of, table_tests}
 use Rattle.plant_text.specs.Scope.{Scope}
 
 -- a limit for each time or period: the list that is given, or the one number so many times, or none
@@ -42,6 +42,7 @@ is_there inside name = is_some (held inside (optional name))
 unfoldable pub state_fields : Scope → ℕ → Members → List Field
 state_fields scope number inside =
     row (needed key.Name) (declares scope.states number)
+    ∷ row (since scope.third key.Label) label
     ∷ row (optional key.Initial) (count 0 1000000000)
     ∷ row (optional key.Limit) (count 0 1000000000)
     ∷ row (since scope.second key.Limits) (numbers (is_there inside key.Limit) (scope.periods + 1) 1000000000)
@@ -58,6 +59,7 @@ state_tests scope number d = table_tests (state_place number) (state_fields scop
 unfoldable pub state_of : Scope → Data → State
 state_of scope d = let inside = members_of d in record {
   name = at_key text_of [] inside (needed key.Name);
+  label = at_key text_of [] inside (since scope.third key.Label);
   initial = at_key count_of 0 inside (optional key.Initial);
   limits = limits_in (option_map count_of (held inside (optional key.Limit))) (option_map numbers_of (held inside (since scope.second key.Limits))) (scope.periods + 1);
   price = at_key integer_of (pos 0) inside (optional key.Price);
@@ -68,6 +70,7 @@ state_of scope d = let inside = members_of d in record {
 unfoldable pub utility_fields : Scope → ℕ → Members → List Field
 utility_fields scope number inside =
     row (needed key.Name) (declares scope.utilities number)
+    ∷ row (since scope.third key.Label) label
     ∷ row (record { name = key.Limit; known = true; required = not (is_some (held inside (since scope.second key.Limits))) }) (count 0 1000000000)
     ∷ row (since scope.second key.Limits) (numbers (is_there inside key.Limit) scope.periods 1000000000)
     ∷ row (optional key.Rate) (money 1000000)
@@ -79,6 +82,7 @@ utility_tests scope number d = table_tests (record { table = table.Utility; item
 unfoldable pub utility_of : Scope → Data → Utility
 utility_of scope d = let inside = members_of d in record {
   name = at_key text_of [] inside (needed key.Name);
+  label = at_key text_of [] inside (since scope.third key.Label);
   limits = limits_in (option_map count_of (held inside (optional key.Limit))) (option_map numbers_of (held inside (since scope.second key.Limits))) scope.periods;
   rate = at_key integer_of (pos 0) inside (optional key.Rate);
   rates = at_key amounts_of [] inside (since scope.third key.Rates);
@@ -88,8 +92,9 @@ utility_of scope d = let inside = members_of d in record {
 unfoldable pub unit_fields : Scope → ℕ → Members → List Field
 unit_fields scope number inside =
     row (needed key.Name) (declares scope.units number)
+    ∷ row (since scope.third key.Label) label
     ∷ row (since scope.third key.Last) mentions
-    ∷ row (since scope.third key.Until) (moment (not (is_there inside key.Last)) (negsuc 335) (pos scope.periods)) ∷ []
+    ∷ row (since scope.third key.Until) (time (not (is_there inside key.Last)) (negsuc 335) (pos scope.periods)) ∷ []
 
 -- the place of a unit
 abbrev pub unit_place : ℕ → Place
@@ -107,6 +112,7 @@ last_in scope inside =
 unfoldable pub unit_of : Scope → Data → StnUnit
 unit_of scope d = let inside = members_of d in record {
   name = at_key text_of [] inside (needed key.Name);
+  label = at_key text_of [] inside (since scope.third key.Label);
   last = last_in scope inside;
 }
 
@@ -326,6 +332,8 @@ drawer_in scope number inside = owner_in table.Draw number (duration_with (outpu
 unfoldable pub task_fields : Scope → ℕ → Members → List Field
 task_fields scope number inside =
     row (needed key.Name) (declares scope.tasks number)
+    ∷ row (since scope.third key.Label) label
+    ∷ row (since scope.third key.Colour) colour
     ∷ row (needed key.Quantum) (count 1 1000000)
     ∷ row (needed key.Input) (tables 8 (sides_tests scope (owner_in table.Input number 0) (quantum_in inside)))
     ∷ row (needed key.Output) (tables 8 (sides_tests scope (owner_in table.Output number 0) (quantum_in inside)))
@@ -337,6 +345,8 @@ task_tests scope number d = table_tests (record { table = table.Task; item = num
 unfoldable pub task_of : Scope → Data → Task
 task_of scope d = let inside = members_of d in record {
   name = at_key text_of [] inside (needed key.Name);
+  label = at_key text_of [] inside (since scope.third key.Label);
+  colour = at_key text_of [] inside (since scope.third key.Colour);
   quantum = quantum_in inside;
   inputs = map input_of (outputs_in scope false (quantum_in inside) (items_at inside (needed key.Input)));
   outputs = outputs_of scope inside;

@@ -1,15 +1,16 @@
 //! A document as a whole: its sizes, its names, and its arrays.
-ghost use Rattle.std.specs.Prelude.{◌≡◌, ◌≤◌, ◌<◌, ◌==◌, [], ◌++◌, length, map, take, if◌then◌else◌, IfOk, OnOk, IfErr, None};
+ghost use Rattle.std.specs.Prelude.{◌≡◌, ◌≤◌, ◌<◌, ◌==◌, [], ◌++◌, length, map, option_map, take, if◌then◌else◌, IfOk, OnOk, IfErr, None};
 ghost use Rattle.toml.specs.View.{table_view};
 ghost use Rattle.plant_text.specs.Tests.{Gives, first_fault, rows_tests, Stops};
 ghost use Rattle.plant_text.specs.Fields.{field_tests, fields_tests, at_key, count_of, items_of, items_at, natural, needed, optional};
 ghost use Rattle.plant_text.specs.Fields as kind;
 ghost use Rattle.plant_text.specs.Names.{places_in};
-ghost use Rattle.plant_text.specs.Scope.{scope_of};
-ghost use Rattle.plant_text.specs.Document.{top_place, version_in, version_of, is_second, is_third, names_at, scope_in, size_fields, named_fields, referring_fields, lasts_tests, with_named, with_referring, plant_with, plant_in, size_tests, unknown_tests, document_tests};
+ghost use Rattle.plant_text.specs.Scope.{no_owner, scope_of};
+ghost use Rattle.plant_text.specs.Document.{top_place, version_in, version_of, is_second, is_third, names_at, scope_in, size_fields, has_third, calendar_fields, calendar_in, named_fields, referring_fields, lasts_tests, with_named, with_referring, plant_with, plant_in, size_tests, unknown_tests, document_tests};
 
 use crate::fault::{KeyName, Place, PlantStop, TableName};
 use crate::find::{Key, find, key, unknown};
+use crate::moments::moment_if_there;
 use crate::numbers::Numbers;
 use crate::rows::Row;
 use crate::scope::{Context, Owner};
@@ -18,11 +19,11 @@ use crate::tables::unit::check_lasts;
 use crate::values::{count, items_of, rows};
 use std::alloc::{AllocError, Global};
 use stn_model::limits::{
-    MAX_EVENTS, MAX_GAPS, MAX_OUTAGES, MAX_PERIODS, MAX_RUNS, MAX_STATES, MAX_TASKS, MAX_UNITS,
-    MAX_UTILITIES, SMALL_EVENTS, SMALL_RUNS, SMALL_STATES, SMALL_TASKS, SMALL_UNITS,
+    MAX_EVENTS, MAX_GAPS, MAX_MINUTES, MAX_OUTAGES, MAX_PERIODS, MAX_RUNS, MAX_STATES, MAX_TASKS,
+    MAX_UNITS, MAX_UTILITIES, SMALL_EVENTS, SMALL_RUNS, SMALL_STATES, SMALL_TASKS, SMALL_UNITS,
     SMALL_UTILITIES,
 };
-use stn_model::{List, Plant};
+use stn_model::{Calendar, List, Moment, Plant};
 use toml::{Table, Value};
 
 /// The place of the file as a whole.
@@ -95,8 +96,8 @@ fn first(items: &[Value], most: usize) -> &[Value]
 
 /// Reads arrays into the lists of a plant, by the rows of the field table.
 macro_rules! read_arrays {
-    ($alloc:expr, $document:expr, $context:expr, $owner:expr, $plant:expr; $($list:ident: ($($key:tt)+) $few:expr, $many:expr;)+) => {
-        $(array($alloc, $document, key!($($key)+), $few, $many, $context, $owner, &mut $plant.$list)?;)+
+    ($alloc:expr, $document:expr, $context:expr, $plant:expr; $($list:ident: ($($key:tt)+) $few:expr, $many:expr;)+) => {
+        $(array($alloc, $document, key!($($key)+), $few, $many, $context, &mut $plant.$list)?;)+
     };
 }
 
@@ -148,16 +149,33 @@ fn context_of(alloc: Global, document: &Table, periods: u32) -> Result<Context, 
     })
 }
 
+// Whether a document has a key of version 3.
+fn has_third(document: &Table, third: bool, name: KeyName) -> bool
+    ensures { result ≡ has_third third (table_view document.now) name }
+{
+    let key = Key {
+        name,
+        known: third,
+        required: false,
+    };
+    find(document, key).is_some()
+}
+
 #[tactic(auto, unfolding(crate::specs::Document::unknown_tests, crate::specs::Document::scope_in, crate::specs::Tests::first_fault))]
-fn check_keys(document: &Table, second: bool) -> Result<(), PlantStop>
-    requires { second ≡ is_second (table_view document.now) }
+fn check_keys(document: &Table, second: bool, third: bool) -> Result<(), PlantStop>
+    requires second { second ≡ is_second (table_view document.now) }
+    requires third { third ≡ is_third (table_view document.now) }
     ensures ok { OnOk result (first_fault (unknown_tests (table_view document.now)) ≡ None) }
     ensures err { IfErr result
         (λ e. Stops e (first_fault (unknown_tests (table_view document.now)))) }
 {
+    let begins = has_third(document, third, KeyName::Start);
+    let measured = has_third(document, third, KeyName::Minutes);
     let keys = [
         key!(needed Version),
         key!(needed Periods),
+        key!(since third, Start beside measured),
+        key!(since third, Minutes beside begins),
         key!(optional State),
         key!(optional Utility),
         key!(optional StnUnit),
@@ -207,14 +225,49 @@ fn horizon(document: &Table, second: bool, third: bool) -> Result<u32, PlantStop
     Ok(periods)
 }
 
+// The calendar that begins at a moment, where one is told.
+fn calendar_from(start: Option<Moment>, minutes: u32) -> Option<Calendar>
+    ensures { result ≡ option_map (λ moment. record { start = moment; minutes = minutes }) start }
+{
+    match start {
+        Some(start) => Some(Calendar { start, minutes }),
+        None => None,
+    }
+}
+
+/// The calendar of a document, if it has one.
+#[tactic(auto, using(crate::proofs::Faults::faults_append))]
+fn calendar(document: &Table, third: bool) -> Result<Option<Calendar>, PlantStop>
+    ensures { Gives result
+        (fields_tests top_place (table_view document.now) (calendar_fields third
+        (table_view document.now)))
+        (calendar_in third (table_view document.now)) }
+{
+    let place = TOP;
+    let begins = has_third(document, third, KeyName::Start);
+    let measured = has_third(document, third, KeyName::Minutes);
+    let start = moment_if_there(document, place, key!(since third, Start beside measured))?;
+    let minutes = count(
+        document,
+        place,
+        key!(since third, Minutes beside begins),
+        1,
+        MAX_MINUTES,
+        0,
+    )?;
+    Ok(calendar_from(start, minutes))
+}
+
 /// A plant of so many periods that has nothing.
-fn bare_plant(alloc: Global, large: bool, periods: u32) -> Plant
+fn bare_plant(alloc: Global, large: bool, periods: u32, calendar: Option<Calendar>) -> Plant
     ensures large { result.large ≡ large }
     ensures periods { result.periods ≡ periods }
+    ensures calendar { result.calendar ≡ calendar }
 {
     Plant {
         large,
         periods,
+        calendar,
         states: List::new(alloc),
         utilities: List::new(alloc),
         units: List::new(alloc),
@@ -236,7 +289,6 @@ fn array<R: Row>(
     few: usize,
     many: usize,
     context: &Context,
-    owner: Owner,
     into: &mut List<R>,
 ) -> Result<(), PlantStop>
     requires fewer { few ≤ many }
@@ -247,11 +299,11 @@ fn array<R: Row>(
         (record {
           key = key;
           kind = kind.tables (if context.now.third then many else few)
-              (rows_tests (R.tests (scope_of context.now) owner)
-              (R.made (scope_of context.now) owner) []);
+              (rows_tests (R.tests (scope_of context.now) no_owner)
+              (R.made (scope_of context.now) no_owner) []);
         }))
         ≡ None) }
-    ensures is { OnOk result (into.new ≡ map (R.made (scope_of context.now) owner)
+    ensures is { OnOk result (into.new ≡ map (R.made (scope_of context.now) no_owner)
         (at_key items_of [] (table_view document.now) key)) }
     ensures few { OnOk result (length into.new ≤ many) }
     ensures err { IfErr result
@@ -259,12 +311,12 @@ fn array<R: Row>(
         (record {
           key = key;
           kind = kind.tables (if context.now.third then many else few)
-              (rows_tests (R.tests (scope_of context.now) owner)
-              (R.made (scope_of context.now) owner) []);
+              (rows_tests (R.tests (scope_of context.now) no_owner)
+              (R.made (scope_of context.now) no_owner) []);
         })))) }
 {
     let most = most(context.third, few, many);
-    *into = rows(alloc, document, TOP, key, most, context, owner)?;
+    *into = rows(alloc, document, TOP, key, most, context, NO_OWNER)?;
     Ok(())
 }
 
@@ -286,8 +338,7 @@ fn named(
         (λ e. Stops e (first_fault (fields_tests top_place (table_view document.now)
         (named_fields (scope_of context.now))))) }
 {
-    let owner = NO_OWNER;
-    read_arrays! { alloc, document, context, owner, plant;
+    read_arrays! { alloc, document, context, plant;
         states: (optional State) SMALL_STATES, MAX_STATES;
         utilities: (optional Utility) SMALL_UTILITIES, MAX_UTILITIES;
         units: (optional StnUnit) SMALL_UNITS, MAX_UNITS;
@@ -314,8 +365,7 @@ fn referring(
         (λ e. Stops e (first_fault (fields_tests top_place (table_view document.now)
         (referring_fields (scope_of context.now))))) }
 {
-    let owner = NO_OWNER;
-    read_arrays! { alloc, document, context, owner, plant;
+    read_arrays! { alloc, document, context, plant;
         runs: (optional Run) SMALL_RUNS, MAX_RUNS;
         gaps: (optional Gap) MAX_GAPS, MAX_GAPS;
         receipts: (optional Receipt) SMALL_EVENTS, MAX_EVENTS;
@@ -372,8 +422,14 @@ fn check_sizes(plant: &Plant) -> Result<(), PlantStop>
 
 /// The plant of a document, read against its context.
 #[tactic(auto, using(crate::proofs::Faults::faults_append))]
-fn plant_against(alloc: Global, document: &Table, context: &Context) -> Result<Plant, PlantStop>
-    requires { context.now.periods ≤ 336 }
+fn plant_against(
+    alloc: Global,
+    document: &Table,
+    context: &Context,
+    calendar: Option<Calendar>,
+) -> Result<Plant, PlantStop>
+    requires horizon { context.now.periods ≤ 336 }
+    requires calendar { calendar ≡ calendar_in context.now.third (table_view document.now) }
     ensures { Gives result (fields_tests top_place (table_view document.now)
         (named_fields (scope_of context.now))
         ++ (lasts_tests (scope_of context.now) (table_view document.now)
@@ -382,7 +438,7 @@ fn plant_against(alloc: Global, document: &Table, context: &Context) -> Result<P
         (table_view document.now)))))
         (plant_with (scope_of context.now) (table_view document.now)) }
 {
-    let mut plant = bare_plant(alloc, context.third, context.periods);
+    let mut plant = bare_plant(alloc, context.third, context.periods, calendar);
     named(alloc, document, context, &mut plant)?;
     check_units(document, context)?;
     referring(alloc, document, context, &mut plant)?;
@@ -397,8 +453,10 @@ pub fn read_document(alloc: Global, document: &Table) -> Result<Plant, PlantStop
         (plant_in (table_view document.now)) }
 {
     let second = is_second(document);
-    check_keys(document, second)?;
-    let periods = horizon(document, second, is_third(document))?;
+    let third = is_third(document);
+    check_keys(document, second, third)?;
+    let periods = horizon(document, second, third)?;
+    let calendar = calendar(document, third)?;
     let context = context_of(alloc, document, periods)?;
-    plant_against(alloc, document, &context)
+    plant_against(alloc, document, &context, calendar)
 }

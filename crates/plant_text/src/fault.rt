@@ -29,6 +29,8 @@ pub enum KeyName {
     Whole,
     Version,
     Periods,
+    Start,
+    Minutes,
     State,
     Utility,
     StnUnit,
@@ -39,6 +41,8 @@ pub enum KeyName {
     Delivery,
     Outage,
     Name,
+    Label,
+    Colour,
     Initial,
     Limit,
     Limits,
@@ -118,6 +122,8 @@ impl Place {
 /// | 21 | both `limit` and `limits`, or both `rate` and `rates` |
 /// | 22 | an outage whose `from` is not below its `to` |
 /// | 23 | `until` where there is no `last` |
+/// | 24 | a label that is not 1 to 64 bytes without control characters and without U+FFFE and U+FFFF |
+/// | 25 | a colour that is not `#` and six hexadecimal digits |
 #[derive(Clone, Copy, Debug, PartialEq, Eq)]
 pub struct PlantFault {
     pub kind: u8,

@@ -25,7 +25,7 @@ pub fn lookup(table: &Table, name: KeyName) -> Option<&Value>
 }
 
 /// A key as a row of the field table names it: `needed`, `optional`, needed
-/// `of` outputs alone, or known `since` version 2.
+/// `of` outputs alone, or known `since` a version, where it may be needed `beside` another.
 macro_rules! key {
     (needed $name:ident) => {
         $crate::find::Key {
@@ -60,6 +60,13 @@ macro_rules! key {
             name: $crate::fault::KeyName::$name,
             known: $second,
             required: false,
+        }
+    };
+    (since $second:expr, $name:ident beside $there:expr) => {
+        $crate::find::Key {
+            name: $crate::fault::KeyName::$name,
+            known: $second,
+            required: $there,
         }
     };
 }

@@ -8,6 +8,8 @@
 mod document;
 pub mod fault;
 mod find;
+mod labels;
+mod moments;
 mod names;
 mod numbers;
 mod read;

@@ -40,7 +40,7 @@ pub fn is_name(bytes: &[u8]) -> bool
     }
 }
 
-/// The bytes as a name.
+/// The bytes as a name, a label or a colour.
 pub fn name_of(alloc: Global, bytes: &[u8]) -> Result<Name, AllocError>
     ensures { IfOk result (λ name. name ≡ bytes.now) }
 {

@@ -159,7 +159,7 @@ fn time_in(value: &Value, place: Place, name: KeyName, span: Span) -> Result<i32
 #[tactic(auto, unfolding(crate::specs::Fields::value_tests, crate::specs::Fields::kind_tests, crate::specs::Tests::first_fault))]
 pub fn time(table: &Table, place: Place, key: Key, span: Span) -> Result<i32, PlantStop>
     ensures { Gives result (field_tests place (table_view table.now)
-        (record { key = key; kind = kind.moment span.alone span.low span.high }))
+        (record { key = key; kind = kind.time span.alone span.low span.high }))
         (at_key integer_of (pos 0) (table_view table.now) key) }
 {
     match present(table, place, key)? {
@@ -348,6 +348,19 @@ pub struct Several {
     pub many: u32,
     pub most: u32,
 }
+
+/// So many numbers, each at most so large, where an item does not have another key.
+macro_rules! several {
+    ($value:expr, unless $other:ident; $many:expr, $most:expr) => {
+        $crate::values::Several {
+            forbidden: $crate::find::has($value, $crate::find::key!(optional $other)),
+            many: $many,
+            most: $most,
+        }
+    };
+}
+
+pub(crate) use several;
 
 #[tactic(auto, unfolding(crate::specs::Fields::kind_tests, crate::specs::Tests::first_fault))]
 fn numbers_in(

@@ -21,9 +21,9 @@ impl KeyName {
         ensures { result.now ≡ key_word self }
     {
         words! { self, KeyName;
-            Whole "-", Version "version", Periods "periods", State "state", Utility "utility",
+            Whole "-", Version "version", Periods "periods", Start "start", Minutes "minutes", State "state", Utility "utility",
             StnUnit "unit", Task "task", Run "run", Gap "gap", Receipt "receipt",
-            Delivery "delivery", Outage "outage", Name "name", Initial "initial", Limit "limit",
+            Delivery "delivery", Outage "outage", Name "name", Label "label", Colour "colour", Initial "initial", Limit "limit",
             Limits "limits", Price "price", Holding "holding", Rate "rate", Rates "rates", Quantum "quantum",
             Input "input", Output "output", Draw "draw", Part "part", Delay "delay", Fixed "fixed",
             Each "each", Min "min", Max "max", Cost "cost", From "from", To "to", Time "time",

@@ -13,6 +13,7 @@ mod Changeovers
 mod Earned
 mod Fewer
 mod Gained
+mod Dated
 mod RolledSound
 mod Listing
 mod Levels

@@ -17,7 +17,8 @@ use Rattle.plan_sim.specs.Tables.{IsLoadTable}
 use Rattle.plan_sim.proofs.Following.{not_below}
 use Rattle.plan_sim.proofs.Firsts.{all_from_places, fits_decided, apart_all, apart_decided, begun_all, cleaned_all, by_order, high_decided}
 use Rattle.rolled_plant.specs.Kept.{IsMendable}
-use Rattle.rolled_plant.specs.Unmended.{IsUnmended, BreaksBefore, IsFirstLoadAt, IsFirstLoad}
+use Rattle.rolled_plant.specs.Unmended.{IsUnmended, BreaksBefore}
+use Rattle.rolled_plant.specs.laws.FirstLoad.{IsFirstLoadAt, IsFirstLoad}
 use Rattle.rolled_plant.proofs.Lost.{lost}
 
 -- the violation is of a load

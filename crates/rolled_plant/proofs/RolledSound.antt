@@ -1,4 +1,4 @@
--- The rolled plant is sound, where its receipts are few.
+-- The rolled plant is sound, where a plant file can say it.
 use Rattle.std.proofs.Common.{◌≡◌, ◌≢◌, ℕ, zero, suc, ◌+◌, ◌-◌, ◌<◌, ◌≤◌, Bool, true, ltb, leb, List, [], ◌∷◌, length, filter, get_or, drop, refl, sym, subst, inl, inr, arith, All, AllPairs, unsigned_abs, Option, Some, None}
 use Rattle.std.specs.Prelude.{ℤ, pos, negsuc, ◌-ℤ◌, ◌≤ℤ◌, IfSome, option_map, int_le, replicate, ◌/◌, ◌%◌, ◌==◌}
 use Rattle.std.proofs.lemmas.Int.{ints}
@@ -29,8 +29,10 @@ use Rattle.rolled_plant.specs.Lists.{map_from, listed_below}
 use Rattle.rolled_plant.specs.Kept.{IsMendable}
 use Rattle.rolled_plant.specs.Begin.{latest, is_latest, last_after, last_behind, seen_from, last_seen}
 use Rattle.rolled_plant.specs.Receipts.{coming, one_receipt, some_receipt, receipts_of, receipts_at, receipts_from, AreFew}
+use Rattle.rolled_plant.specs.FitsFile.{FitsFile}
 use Rattle.rolled_plant.specs.RolledPlant.{rolled_plant, rolled_state, rolled_utility, rolled_unit, sooner_delivery, deliveries_from, sooner_outage, outages_from}
 use Rattle.rolled_plant.proofs.Basics.{length-map_from, get_or-map_from}
+use Rattle.rolled_plant.proofs.Dated.{calendar-sound}
 use Rattle.rolled_plant.proofs.Joined.{found_at}
 use Rattle.rolled_plant.proofs.Fewer.{fewer_slots, fewer_pairs}
 
@@ -65,6 +67,7 @@ All-listed_below P f (suc n) each = All-append P (listed_below f n) (f n) (All-l
 state_sound : (plant : Plant) (before : List Start) (period number : ℕ) (state : State) → period ≤ plant.periods → SoundState plant.periods state → SoundState (plant.periods - period) (rolled_state plant before period number state)
 state_sound plant before period number state less sound = record {
   name = sound.name;
+  label = sound.label;
   initial = omega arith;
   limits = elim sound.limits [
     | inl e ↦ inl (drop-none period state.limits e)
@@ -81,6 +84,7 @@ utility_sound plant before period number utility less sound =
     let long = sound.limits in
     record {
       name = sound.name;
+      label = sound.label;
       limits = omega (arith, length-map_from left period (drop period utility.limits), length-drop period utility.limits, long);
       limit = All-map_from (λ limit. limit ≤ 1000000000) left period (drop period utility.limits)
           (λ k d l. let most = All-drop (λ limit. limit ≤ 1000000000) period utility.limits sound.limit k d l in omega arith);
@@ -133,6 +137,7 @@ module _ (plant : Plant) (before : List Start) (period : ℕ) (sound : Sound pla
   unfolding last_behind
   unit_sound number d there = record {
     name = (sound.units number d there).name;
+    label = (sound.units number d there).label;
     last = last_sound (last_after plant (latest before number) (unit_at plant number).last) (held_sound (latest before number) (unit_at plant number).last number refl (sound.units number no_unit there).last);
   }
 
@@ -244,6 +249,8 @@ module _ (plant : Plant) (before : List Start) (period : ℕ) (sound : Sound pla
       let utilities = length-map_from (rolled_utility plant before period) 0 plant.utilities in
       record {
         name = is.name;
+        label = is.label;
+        colour = is.colour;
         quantum = is.quantum;
         inputs = is.inputs;
         outputs = is.outputs;
@@ -285,10 +292,11 @@ module _ (plant : Plant) (before : List Start) (period : ℕ) (sound : Sound pla
       subst (λ (n : ℕ). SoundUnit (rolled_plant plant before period) (rolled_unit plant before period n (get_or plant.units k d))) same (unit_sound k d l)
 
   -- the rolled plant is sound
-  pub rolled_sound : AreFew plant before period → Sound (rolled_plant plant before period)
+  pub rolled_sound : FitsFile plant before period → Sound (rolled_plant plant before period)
   unfolding rolled_plant
-  rolled_sound few = record {
-    counts = counts_sound few;
+  rolled_sound fits = record {
+    counts = counts_sound fits.few;
+    calendar = calendar-sound period plant.calendar sound.calendar fits.in_time;
     small = λ not_large. absurd (true≢false not_large);
     names = names_sound;
     states = All-map_from (SoundState (plant.periods - period)) (rolled_state plant before period) 0 plant.states

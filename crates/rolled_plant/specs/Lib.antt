@@ -3,6 +3,8 @@ pub mod Kept
 pub mod Begin
 pub mod Receipts
 pub mod RolledPlant
+pub mod FitsFile
 pub mod RollLaw
 pub mod Unmended
 pub mod Gained
+pub mod laws

@@ -1,10 +1,12 @@
 -- What plans of the rolled plant are to the plant.
-use Rattle.std.specs.Prelude.{◌≡◌, ℕ, ℤ, ◌+ℤ◌, ◌-ℤ◌, ◌<◌, ◌↔◌, List, []}
+use Rattle.std.specs.Prelude.{◌≡◌, ℕ, ◌+◌, ℤ, ◌+ℤ◌, ◌-ℤ◌, ◌<◌, ◌↔◌, Option, option_map, List, []}
 use Rattle.stn_model.specs.declared.plant.Plant.{Plant}
+use Rattle.stn_model.specs.declared.plant.Moment.{Moment}
 use Rattle.stn_model.specs.declared.start.Start.{Start}
 use Rattle.stn_model.specs.Feasible.{Feasible}
 use Rattle.stn_model.specs.Profit.{profit}
 use Rattle.stn_model.specs.Sound.{Sound}
+use Rattle.plant_labels.specs.Clock.{moment_at}
 use Rattle.rolled_plant.specs.Kept.{kept, moved, joined, IsMendable}
 use Rattle.rolled_plant.specs.RolledPlant.{rolled_plant}
 
@@ -34,3 +36,11 @@ pub record RestGoesOn (plant : Plant) (plan : List Start) (period : ℕ) : Type 
 abbrev pub RestLaw : Type 0
 RestLaw = (plant : Plant) (plan : List Start) (period : ℕ) → Sound plant → period < plant.periods
     → IsMendable plant (kept plan period) period → RestGoesOn plant plan period
+
+-- what the clock shows at a time of the plant, where it has a calendar
+abbrev pub date_at : Plant → ℕ → Option Moment
+date_at plant time = option_map (λ calendar. moment_at calendar time) plant.calendar
+
+-- The rolled plant shows at each time what the plant shows so many periods later.
+abbrev pub DateLaw : Type 0
+DateLaw = (plant : Plant) (before : List Start) (period : ℕ) → Sound plant → (time : ℕ) → date_at (rolled_plant plant before period) time ≡ date_at plant (period + time)

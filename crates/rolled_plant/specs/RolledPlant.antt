@@ -1,13 +1,15 @@
 -- The plant from a period on, where the starts before it have been carried out.
-use Rattle.std.specs.Prelude.{ℕ, ◌-◌, nat_le, nat_lt, min, true, List, map, filter, drop, option_map}
+use Rattle.std.specs.Prelude.{ℕ, ◌-◌, nat_le, nat_lt, min, true, Option, List, map, filter, drop, option_map}
 use Rattle.stn_model.specs.declared.plant.Plant.{Plant}
 use Rattle.stn_model.specs.declared.plant.State.{State}
 use Rattle.stn_model.specs.declared.plant.Utility.{Utility}
 use Rattle.stn_model.specs.declared.plant.StnUnit.{StnUnit}
 use Rattle.stn_model.specs.declared.plant.Delivery.{Delivery}
 use Rattle.stn_model.specs.declared.plant.Outage.{Outage}
+use Rattle.stn_model.specs.declared.plant.Calendar.{Calendar}
 use Rattle.stn_model.specs.declared.start.Start.{Start}
 use Rattle.stn_model.specs.Load.{load}
+use Rattle.plant_labels.specs.Clock.{calendar_from}
 use Rattle.rolled_plant.specs.Lists.{map_from}
 use Rattle.rolled_plant.specs.Begin.{stock_before, last_behind, last_seen}
 use Rattle.rolled_plant.specs.Receipts.{receipts_from}
@@ -46,12 +48,18 @@ sooner_outage period outage = record outage { from = outage.from - period; to = 
 abbrev pub outages_from : ℕ → List Outage → List Outage
 outages_from period outages = map (sooner_outage period) (filter (λ outage. nat_lt period outage.to) outages)
 
+-- the calendar from the period on, where there is one
+abbrev pub rolled_calendar : ℕ → Option Calendar → Option Calendar
+rolled_calendar period calendar = option_map (calendar_from period) calendar
+
 -- The plant from the period on, where these starts before it have been carried out: with the stocks that they left, what comes and
--- goes from then on, what they leave of the utilities, and the batches that hold the units last. It is of version 3 of plant files.
+-- goes from then on, what they leave of the utilities, and the batches that hold the units last. Its calendar begins at the period. It
+-- is of version 3 of plant files.
 unfoldable pub rolled_plant : Plant → List Start → ℕ → Plant
 rolled_plant plant before period = record plant {
   large = true;
   periods = plant.periods - period;
+  calendar = rolled_calendar period plant.calendar;
   states = map_from (rolled_state plant before period) 0 plant.states;
   utilities = map_from (rolled_utility plant before period) 0 plant.utilities;
   units = map_from (rolled_unit plant before period) 0 plant.units;

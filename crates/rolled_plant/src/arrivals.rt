@@ -1,139 +1,112 @@
 //! What comes into the states from a period on, read off the table of the stocks.
-ghost use Rattle.std.specs.Prelude.{◌≡◌, ◌≤◌, ◌<◌, ◌^◌, ◌+◌, pos, ◌-ℤ◌, All, length, unsigned_abs};
+ghost use Rattle.std.specs.Prelude.{◌≡◌, ◌≤◌, ◌<◌, ◌^◌, ◌+◌, pos, ◌-ℤ◌, length, unsigned_abs};
 ghost use Rattle.stn_model.specs.Plant.{state_at};
-ghost use Rattle.stn_model.specs.Sound.{Sound};
-ghost use Rattle.plan_sim.specs.Tables.{IsStockTable};
+ghost use Rattle.rolled_plant.specs.laws.Carried.{IsCarried};
 ghost use Rattle.rolled_plant.specs.Gained.{gained_by, gained_before};
 ghost use Rattle.rolled_plant.specs.Begin.{inflow_before, outflow_before, stock_before};
 ghost use Rattle.rolled_plant.specs.Receipts.{arriving_at, coming};
 
+use crate::carried::Carried;
 use plan_sim::stocks::level_at;
-use stn_model::{Plant, Start, delivered_by};
+use stn_model::delivered_by;
 
 /// The greatest receipt, and the greatest stock that a plant begins with.
 pub const MOST: u128 = 1_000_000_000;
 
-/// What comes into the state so many periods after one, with what of the stock is above 10^9 where that is none. It
-/// takes time with the deliveries.
+/// What comes into the state so many periods after the period, with what of the stock is above 10^9 where that is none.
+/// It takes time with the deliveries.
 #[tactic(auto, unfolding(crate::specs::Receipts::coming))]
-pub fn coming(
-    plant: &Plant,
-    before: &[Start],
-    period: u32,
-    stocks: &[i128],
-    state: u32,
-    time: u32,
-) -> u128
-    requires sound { Sound plant.now }
-    requires earlier { All (λ start. start.period < period) before.now }
-    requires table { IsStockTable plant.now before.now stocks.now }
-    requires small { All (λ level. unsigned_abs level ≤ 2 ^ 90) stocks.now }
-    requires there { state < length plant.now.states }
-    requires within { period + time ≤ plant.now.periods }
-    ensures value { result ≡ coming plant.now before.now period state time }
+pub fn coming(carried: &Carried, state: u32, time: u32) -> u128
+    requires carried { IsCarried carried.now }
+    requires there { state < length carried.now.plant.now.states }
+    requires within { carried.now.period + time ≤ carried.now.plant.now.periods }
+    ensures value { result
+        ≡ coming carried.now.plant.now carried.now.before.now carried.now.period state time }
     ensures small { result ≤ 2 ^ 93 }
 {
-    let arrived = arriving_at(plant, before, period, stocks, state, period + time);
+    let arrived = arriving_at(carried, state, carried.period + time);
     if time == 0 {
-        arrived + stock_before(plant, before, stocks, state, period).saturating_sub(MOST)
+        arrived + stock_before(carried, state).saturating_sub(MOST)
     } else {
         arrived
     }
 }
 
 // What comes into the state at a time from the period on: what it gains then.
-fn arriving_at(
-    plant: &Plant,
-    before: &[Start],
-    period: u32,
-    stocks: &[i128],
-    state: u32,
-    time: u32,
-) -> u128
-    requires sound { Sound plant.now }
-    requires earlier { All (λ start. start.period < period) before.now }
-    requires table { IsStockTable plant.now before.now stocks.now }
-    requires small { All (λ level. unsigned_abs level ≤ 2 ^ 90) stocks.now }
-    requires there { state < length plant.now.states }
-    requires late { period ≤ time }
-    requires within { time ≤ plant.now.periods }
-    ensures value { result ≡ arriving_at plant.now before.now state time }
+fn arriving_at(carried: &Carried, state: u32, time: u32) -> u128
+    requires carried { IsCarried carried.now }
+    requires there { state < length carried.now.plant.now.states }
+    requires late { carried.now.period ≤ time }
+    requires within { time ≤ carried.now.plant.now.periods }
+    ensures value { result ≡ arriving_at carried.now.plant.now carried.now.before.now state time }
     ensures small { result ≤ 2 ^ 92 }
 {
-    let gained = gained_by(plant, before, stocks, state, time);
-    (gained - gained_before(plant, before, stocks, state, time)) as u128
+    (gained_by(carried, state, time) - gained_before(carried, state, time)) as u128
 }
 
 // The stock of the state at a time, and what has been delivered from it by then.
-fn gained_by(plant: &Plant, before: &[Start], stocks: &[i128], state: u32, time: u32) -> i128
-    requires sound { Sound plant.now }
-    requires table { IsStockTable plant.now before.now stocks.now }
-    requires small { All (λ level. unsigned_abs level ≤ 2 ^ 90) stocks.now }
-    requires there { state < length plant.now.states }
-    requires within { time ≤ plant.now.periods }
-    ensures value { result ≡ gained_by plant.now before.now state time }
+fn gained_by(carried: &Carried, state: u32, time: u32) -> i128
+    requires carried { IsCarried carried.now }
+    requires there { state < length carried.now.plant.now.states }
+    requires within { time ≤ carried.now.plant.now.periods }
+    ensures value { result ≡ gained_by carried.now.plant.now carried.now.before.now state time }
     ensures small { unsigned_abs result ≤ 2 ^ 91 }
 {
-    let level = level_at(plant, stocks, state as usize, time as usize);
-    level + delivered_by(plant, state, time) as i128
+    let level = level_at(carried.plant, carried.stocks, state as usize, time as usize);
+    level + delivered_by(carried.plant, state, time) as i128
 }
 
 // The same before a time: at first what was there.
-fn gained_before(plant: &Plant, before: &[Start], stocks: &[i128], state: u32, time: u32) -> i128
-    requires sound { Sound plant.now }
-    requires table { IsStockTable plant.now before.now stocks.now }
-    requires small { All (λ level. unsigned_abs level ≤ 2 ^ 90) stocks.now }
-    requires there { state < length plant.now.states }
-    requires within { time ≤ plant.now.periods }
-    ensures value { result ≡ gained_before plant.now before.now state time }
+fn gained_before(carried: &Carried, state: u32, time: u32) -> i128
+    requires carried { IsCarried carried.now }
+    requires there { state < length carried.now.plant.now.states }
+    requires within { time ≤ carried.now.plant.now.periods }
+    ensures value { result ≡ gained_before carried.now.plant.now carried.now.before.now state time }
     ensures small { unsigned_abs result ≤ 2 ^ 91 }
 {
     if time == 0 {
-        initial(plant, state)
+        initial(carried, state)
     } else {
-        gained_by(plant, before, stocks, state, time - 1)
+        gained_by(carried, state, time - 1)
     }
 }
 
-/// The stock of the state before a time, where it is not negative; else 0.
+/// The stock of the state before the period, where it is not negative; else 0.
 #[tactic(auto, unfolding(crate::specs::Begin::stock_before))]
-pub fn stock_before(plant: &Plant, before: &[Start], stocks: &[i128], state: u32, time: u32) -> u128
-    requires sound { Sound plant.now }
-    requires table { IsStockTable plant.now before.now stocks.now }
-    requires small { All (λ level. unsigned_abs level ≤ 2 ^ 90) stocks.now }
-    requires there { state < length plant.now.states }
-    requires within { time ≤ plant.now.periods }
-    ensures value { result ≡ stock_before plant.now before.now state time }
+pub fn stock_before(carried: &Carried, state: u32) -> u128
+    requires carried { IsCarried carried.now }
+    requires there { state < length carried.now.plant.now.states }
+    ensures value { result
+        ≡ stock_before carried.now.plant.now carried.now.before.now state carried.now.period }
     ensures small { result ≤ 2 ^ 90 }
 {
-    let level = level_before(plant, before, stocks, state, time);
+    let level = level_before(carried, state);
     if level < 0 { 0 } else { level as u128 }
 }
 
-// The stock of the state before a time; it may be negative.
-fn level_before(plant: &Plant, before: &[Start], stocks: &[i128], state: u32, time: u32) -> i128
-    requires sound { Sound plant.now }
-    requires table { IsStockTable plant.now before.now stocks.now }
-    requires small { All (λ level. unsigned_abs level ≤ 2 ^ 90) stocks.now }
-    requires there { state < length plant.now.states }
-    requires within { time ≤ plant.now.periods }
-    ensures value { result ≡ pos (inflow_before plant.now before.now state time)
-        -ℤ pos (outflow_before plant.now before.now state time) }
+// The stock of the state before the period; it may be negative.
+fn level_before(carried: &Carried, state: u32) -> i128
+    requires carried { IsCarried carried.now }
+    requires there { state < length carried.now.plant.now.states }
+    ensures value { result
+        ≡ pos (inflow_before carried.now.plant.now carried.now.before.now state carried.now.period)
+        -ℤ pos (outflow_before carried.now.plant.now carried.now.before.now state carried.now.period) }
     ensures small { unsigned_abs result ≤ 2 ^ 90 }
 {
-    if time == 0 {
-        initial(plant, state)
+    if carried.period == 0 {
+        initial(carried, state)
     } else {
-        level_at(plant, stocks, state as usize, time as usize - 1)
+        let time = carried.period as usize - 1;
+        level_at(carried.plant, carried.stocks, state as usize, time)
     }
 }
 
 // What the plant begins with of the state.
-fn initial(plant: &Plant, state: u32) -> i128
-    requires sound { Sound plant.now }
-    requires there { state < length plant.now.states }
-    ensures value { result ≡ pos (state_at plant.now state).initial }
+fn initial(carried: &Carried, state: u32) -> i128
+    requires carried { IsCarried carried.now }
+    requires there { state < length carried.now.plant.now.states }
+    ensures value { result ≡ pos (state_at carried.now.plant.now state).initial }
     ensures small { unsigned_abs result ≤ 2 ^ 30 }
 {
-    plant.states.get(state as usize).initial as i128
+    carried.plant.states.get(state as usize).initial as i128
 }

@@ -1,5 +1,7 @@
 //! What a rolled plant is worth.
-ghost use Rattle.rolled_plant.specs.RollLaw.{RestLaw, RollLaw};
+ghost use Rattle.rolled_plant.specs.RollLaw.{RestLaw, RollLaw, DateLaw};
+
+use plant_labels::clock_law;
 
 /// Does nothing: its clause is a law. A plan of the rolled plant is feasible exactly where the plant carries it out
 /// from the period on, behind the starts before it; and the two profits differ by a number that does not depend on
@@ -13,3 +15,11 @@ pub fn roll_law()
 pub fn rest_law()
     ensures { RestLaw }
 {}
+
+/// Does nothing: its clause is a law. The clock of the rolled plant shows at each time what that of the plant shows so
+/// many periods later.
+pub fn date_law()
+    ensures { DateLaw }
+{
+    clock_law();
+}

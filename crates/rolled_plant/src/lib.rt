@@ -2,11 +2,12 @@
 //! there.
 //!
 //! `kept` and `moved` part a plan at the period, `first_unmended` says what the starts before break that no later
-//! start mends, `rolled_plant` makes the plant from there on, and `roll_law` and `rest_law` say what plans of the one
-//! plant are to the other.
+//! start mends, `rolled_plant` makes the plant from there on, `roll_law` and `rest_law` say what plans of the one plant
+//! are to the other, and `date_law` what the clock of the one is to that of the other.
 #![tactic(auto)]
 
 mod arrivals;
+mod carried;
 mod earning;
 mod holding;
 mod law;
@@ -16,7 +17,7 @@ mod starts;
 mod unmended;
 
 pub use earning::earned_before;
-pub use law::{rest_law, roll_law};
+pub use law::{date_law, rest_law, roll_law};
 pub use rolling::rolled_plant;
 pub use starts::{kept, moved};
 pub use unmended::first_unmended;

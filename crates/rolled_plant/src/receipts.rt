@@ -1,45 +1,40 @@
 //! What comes into the states from a period on, as receipts of a plant that begins there.
-ghost use Rattle.std.specs.Prelude.{◌≡◌, ◌≤◌, ◌<◌, ◌^◌, ◌+◌, ◌++◌, ℕ, All, OnOk, IfOk, length, replicate, unsigned_abs};
-ghost use Rattle.stn_model.specs.Sound.{Sound};
-ghost use Rattle.plan_sim.specs.Tables.{IsStockTable};
+ghost use Rattle.std.specs.Prelude.{◌≡◌, ◌≤◌, ◌<◌, ◌^◌, ◌+◌, ◌++◌, ℕ, OnOk, IfOk, length, replicate};
+ghost use Rattle.rolled_plant.specs.laws.Carried.{IsCarried};
 ghost use Rattle.rolled_plant.specs.Receipts.{one_receipt, receipts_of, receipts_at, receipts_from};
 
 use crate::arrivals::{MOST, coming};
+use crate::carried::Carried;
 use std::alloc::{AllocError, Global};
-use stn_model::{List, Plant, Receipt, Start};
+use stn_model::{List, Receipt};
 
 /// How many receipts there are from the period on. It takes no memory, and time with the states, the times from there
 /// on and the deliveries.
 #[tactic(auto, unfolding(crate::specs::Receipts::receipts_from))]
-pub fn receipt_count(plant: &Plant, before: &[Start], period: u32, stocks: &[i128]) -> u128
-    requires sound { Sound plant.now }
-    requires earlier { All (λ start. start.period < period) before.now }
-    requires within { period < plant.now.periods }
-    requires table { IsStockTable plant.now before.now stocks.now }
-    requires small { All (λ level. unsigned_abs level ≤ 2 ^ 90) stocks.now }
-    ensures { result ≡ length (receipts_from plant.now before.now period) }
+pub fn receipt_count(carried: &Carried) -> u128
+    requires { IsCarried carried.now }
+    ensures { result
+        ≡ length (receipts_from carried.now.plant.now carried.now.before.now carried.now.period) }
 {
     let mut count: u128 = 0;
-    for time in 0..plant.periods - period + 1 {
-        count += count_at(plant, before, period, stocks, time);
+    for time in 0..carried.plant.periods - carried.period + 1 {
+        count += count_at(carried, time);
     }
     count
 }
 
 // How many receipts there are at a time.
 #[tactic(auto, unfolding(crate::specs::Receipts::receipts_at))]
-fn count_at(plant: &Plant, before: &[Start], period: u32, stocks: &[i128], time: u32) -> u128
-    requires sound { Sound plant.now }
-    requires earlier { All (λ start. start.period < period) before.now }
-    requires within { period + time ≤ plant.now.periods }
-    requires table { IsStockTable plant.now before.now stocks.now }
-    requires small { All (λ level. unsigned_abs level ≤ 2 ^ 90) stocks.now }
-    ensures value { result ≡ length (receipts_at plant.now before.now period time) }
+fn count_at(carried: &Carried, time: u32) -> u128
+    requires carried { IsCarried carried.now }
+    requires within { carried.now.period + time ≤ carried.now.plant.now.periods }
+    ensures value { result
+        ≡ length (receipts_at carried.now.plant.now carried.now.before.now carried.now.period time) }
     ensures small { result ≤ 2 ^ 72 }
 {
     let mut count: u128 = 0;
-    for state in 0..plant.states.len() as u32 {
-        count += count_of(coming(plant, before, period, stocks, state, time));
+    for state in 0..carried.plant.states.len() as u32 {
+        count += count_of(coming(carried, state, time));
     }
     count
 }
@@ -60,47 +55,28 @@ fn count_of(amount: u128) -> u128
 /// The receipts from the period on, by time and state. It takes memory for as many as `receipt_count` says, and
 /// the same time.
 #[tactic(auto, unfolding(crate::specs::Receipts::receipts_from))]
-pub fn receipts_from(
-    alloc: Global,
-    plant: &Plant,
-    before: &[Start],
-    period: u32,
-    stocks: &[i128],
-) -> Result<List<Receipt>, AllocError>
-    requires sound { Sound plant.now }
-    requires earlier { All (λ start. start.period < period) before.now }
-    requires within { period < plant.now.periods }
-    requires table { IsStockTable plant.now before.now stocks.now }
-    requires small { All (λ level. unsigned_abs level ≤ 2 ^ 90) stocks.now }
-    ensures { IfOk result (λ receipts. receipts ≡ receipts_from plant.now before.now period) }
+pub fn receipts_from(alloc: Global, carried: &Carried) -> Result<List<Receipt>, AllocError>
+    requires { IsCarried carried.now }
+    ensures { IfOk result (λ receipts. receipts
+        ≡ receipts_from carried.now.plant.now carried.now.before.now carried.now.period) }
 {
     let mut receipts = List::new(alloc);
-    for time in 0..plant.periods - period + 1 {
-        push_time(&mut receipts, plant, before, period, stocks, time)?;
+    for time in 0..carried.plant.periods - carried.period + 1 {
+        push_time(&mut receipts, carried, time)?;
     }
     Ok(receipts)
 }
 
 // Puts the receipts at a time at the end, by state.
 #[tactic(auto, unfolding(crate::specs::Receipts::receipts_at))]
-fn push_time(
-    receipts: &mut List<Receipt>,
-    plant: &Plant,
-    before: &[Start],
-    period: u32,
-    stocks: &[i128],
-    time: u32,
-) -> Result<(), AllocError>
-    requires sound { Sound plant.now }
-    requires earlier { All (λ start. start.period < period) before.now }
-    requires within { period + time ≤ plant.now.periods }
-    requires table { IsStockTable plant.now before.now stocks.now }
-    requires small { All (λ level. unsigned_abs level ≤ 2 ^ 90) stocks.now }
-    ensures { OnOk result (receipts.new
-        ≡ receipts.old ++ receipts_at plant.now before.now period time) }
+fn push_time(receipts: &mut List<Receipt>, carried: &Carried, time: u32) -> Result<(), AllocError>
+    requires carried { IsCarried carried.now }
+    requires within { carried.now.period + time ≤ carried.now.plant.now.periods }
+    ensures { OnOk result (receipts.new ≡ receipts.old
+        ++ receipts_at carried.now.plant.now carried.now.before.now carried.now.period time) }
 {
-    for state in 0..plant.states.len() as u32 {
-        let amount = coming(plant, before, period, stocks, state, time);
+    for state in 0..carried.plant.states.len() as u32 {
+        let amount = coming(carried, state, time);
         push_amount(receipts, state, time, amount)?;
     }
     Ok(())

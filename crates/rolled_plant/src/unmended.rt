@@ -4,7 +4,8 @@ ghost use Rattle.stn_model.specs.Sound.{Sound};
 ghost use Rattle.stn_model.specs.Violations.{BreaksFirst};
 ghost use Rattle.plan_sim.specs.Faults.{AreUsesKept};
 ghost use Rattle.rolled_plant.specs.Kept.{IsMendable};
-ghost use Rattle.rolled_plant.specs.Unmended.{IsUnmended, BreaksBefore, IsFirstLoad};
+ghost use Rattle.rolled_plant.specs.Unmended.{IsUnmended, BreaksBefore};
+ghost use Rattle.rolled_plant.specs.laws.FirstLoad.{IsFirstLoad};
 
 use plan_sim::faults::first_use;
 use plan_sim::loads::loads;

@@ -15,13 +15,52 @@ const MOST_OF_WINDOW: usize = 150;
 // A hundredth.
 const HUNDREDTH: i64 = 10_737_418;
 
+/// What a round lists: the mixtures of rows that it tries, by their factors, and the blocks of which paths are made. `mixture` is the
+/// one that was looked at last.
+#[derive(Drop)]
+pub struct Candidates {
+    pub mixes: Vec<Vec<Factor>>,
+    pub blocks: Blocks,
+    pub mixture: Mixture,
+}
+
+impl Candidates {
+    /// Given mixtures over so many slots, and no blocks.
+    pub fn new(
+        alloc: Global,
+        slots: usize,
+        mixes: Vec<Vec<Factor>>,
+    ) -> Result<Candidates, AllocError> {
+        Ok(Candidates {
+            mixes,
+            blocks: Blocks::new(alloc, slots)?,
+            mixture: Mixture::new(alloc, slots)?,
+        })
+    }
+
+    // Lists the mixture that was looked at last, of which so much is left; it is a block too.
+    fn put_mixture(
+        &mut self,
+        alloc: Global,
+        factors: &[Factor],
+        left: i64,
+    ) -> Result<(), AllocError> {
+        self.mixes.push(Vec::from_slice(alloc, factors)?)?;
+        let block = Block {
+            factors: Vec::from_slice(alloc, factors)?,
+            left,
+            entries: self.mixture.slots.len(),
+        };
+        self.blocks.put(block, self.mixture.slots.as_slice())
+    }
+}
+
 /// Lists the rows that a bound comes near to; those that are nearer are blocks too.
 pub fn list_rows(
     alloc: Global,
     program: &Program,
     point: &Point,
-    blocks: &mut Blocks,
-    mixes: &mut Vec<Vec<Factor>>,
+    candidates: &mut Candidates,
 ) -> Result<(), AllocError> {
     let rows = program.rows.as_slice();
     for number in 0..rows.len() {
@@ -29,9 +68,9 @@ pub fn list_rows(
         let left = point.left(numbered(number));
         let most = greatest(row.entries.as_slice(), program.root.as_slice());
         if is_near(row, most, left) {
-            mixes.push(alone(alloc, numbered(number))?)?;
+            candidates.mixes.push(alone(alloc, numbered(number))?)?;
             if left < reach_of(most) && row.entries.len() <= MOST_OF_WINDOW {
-                put_row(alloc, numbered(number), row, left, blocks)?;
+                put_row(alloc, numbered(number), row, left, &mut candidates.blocks)?;
             }
         }
     }
@@ -98,29 +137,21 @@ pub fn list_windows(
     program: &Program,
     point: &Point,
     windows: &[Window],
-    mixture: &mut Mixture,
-    blocks: &mut Blocks,
-    mixes: &mut Vec<Vec<Factor>>,
+    candidates: &mut Candidates,
     work: &mut Work,
 ) -> Result<(), AllocError> {
-    let root = program.root.as_slice();
+    let (rows, root) = (program.rows.as_slice(), program.root.as_slice());
     for window in windows {
         if work.is_over() {
             return Ok(());
         }
         let factors = factors_of(window);
-        mixture.mix(program.rows.as_slice(), factors.as_slice(), work);
+        candidates.mixture.mix(rows, factors.as_slice(), work);
         let left = point
             .left(window.later)
             .saturating_add(point.left(window.earlier));
-        if is_worth_it(mixture, point, root, left) {
-            mixes.push(Vec::from_slice(alloc, factors.as_slice())?)?;
-            let block = Block {
-                factors: Vec::from_slice(alloc, factors.as_slice())?,
-                left,
-                entries: mixture.slots.len(),
-            };
-            blocks.put(block, mixture.slots.as_slice())?;
+        if is_worth_it(&candidates.mixture, point, root, left) {
+            candidates.put_mixture(alloc, factors.as_slice(), left)?;
         }
     }
     Ok(())

@@ -1,5 +1,6 @@
 //! Paths: two blocks that take away the slot that is furthest from whole.
 use crate::blocks::{Block, Blocks, count_at};
+use crate::candidates::Candidates;
 use derived_rows::Factor;
 use row_finding::{Mixture, Point, Work, common_divisor};
 use row_kit::Program;
@@ -19,12 +20,15 @@ pub fn list_paths(
     alloc: Global,
     program: &Program,
     point: &Point,
-    blocks: &Blocks,
-    mixture: &mut Mixture,
-    mixes: &mut Vec<Vec<Factor>>,
+    candidates: &mut Candidates,
     work: &mut Work,
 ) -> Result<(), AllocError> {
     let rows = program.rows.as_slice();
+    let Candidates {
+        mixes,
+        blocks,
+        mixture,
+    } = candidates;
     for place in 0..blocks.list.len() {
         if work.is_over() {
             return Ok(());

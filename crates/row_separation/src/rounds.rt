@@ -1,9 +1,8 @@
 //! Rounds of separation.
 ghost use Rattle.std.specs.Prelude.{◌≡◌, ◌≤◌, length};
 
-use crate::blocks::Blocks;
 use crate::bound::Bound;
-use crate::candidates::{list_rows, list_windows};
+use crate::candidates::{Candidates, list_rows, list_windows};
 use crate::copies::{copied, domains_left, no_row, over, pushed};
 use crate::families::Window;
 use crate::history::History;
@@ -11,7 +10,7 @@ use crate::paths::list_paths;
 use derived_rows::{Derived, Factor, shown_row};
 use fixed_point::numbered;
 use range_prop::cut_all;
-use row_finding::{Finder, Mixture, Point, Work};
+use row_finding::{Finder, Point, Work};
 use row_kit::{Area, List, Program};
 use std::alloc::{AllocError, Global};
 
@@ -46,14 +45,33 @@ pub fn separated(
     paths_too: bool,
     work: &mut Work,
 ) -> Result<Vec<Derived>, AllocError> {
-    let mut mixes = mixes;
-    list_mixes(alloc, program, &point, windows, paths_too, &mut mixes, work)?;
+    let mut candidates = Candidates::new(alloc, program.root.len(), mixes)?;
+    list_mixes(
+        alloc,
+        program,
+        &point,
+        windows,
+        paths_too,
+        &mut candidates,
+        work,
+    )?;
+    best_of(alloc, program, &point, candidates.mixes.as_slice(), work)
+}
+
+// The best rows that are derived from mixtures, given by their factors.
+fn best_of(
+    alloc: Global,
+    program: &Program,
+    point: &Point,
+    mixes: &[Vec<Factor>],
+    work: &mut Work,
+) -> Result<Vec<Derived>, AllocError> {
     let mut finder = Finder::new(alloc, program)?;
-    for factors in mixes.as_slice() {
+    for factors in mixes {
         if work.is_over() {
             break;
         }
-        finder.look(alloc, program, &point, factors.as_slice(), work)?;
+        finder.look(alloc, program, point, factors.as_slice(), work)?;
     }
     finder.best(alloc)
 }
@@ -65,24 +83,13 @@ fn list_mixes(
     point: &Point,
     windows: &[Window],
     paths_too: bool,
-    mixes: &mut Vec<Vec<Factor>>,
+    candidates: &mut Candidates,
     work: &mut Work,
 ) -> Result<(), AllocError> {
-    let mut mixture = Mixture::new(alloc, program.root.len())?;
-    let mut blocks = Blocks::new(alloc, program.root.len())?;
-    list_rows(alloc, program, point, &mut blocks, mixes)?;
-    list_windows(
-        alloc,
-        program,
-        point,
-        windows,
-        &mut mixture,
-        &mut blocks,
-        mixes,
-        work,
-    )?;
+    list_rows(alloc, program, point, candidates)?;
+    list_windows(alloc, program, point, windows, candidates, work)?;
     if paths_too {
-        list_paths(alloc, program, point, &blocks, &mut mixture, mixes, work)?;
+        list_paths(alloc, program, point, candidates, work)?;
     }
     Ok(())
 }

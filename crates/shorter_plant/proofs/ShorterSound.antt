@@ -35,6 +35,7 @@ take-none count xs none = rw none (take_all count [] (omega arith))
 state_sound : (periods horizon : ℕ) (state : State) → horizon ≤ periods → SoundState periods state → SoundState horizon (state_until horizon state)
 state_sound periods horizon state less sound = record {
   name = sound.name;
+  label = sound.label;
   initial = sound.initial;
   limits = elim sound.limits [
     | inl e ↦ inl (take-none (horizon + 1) state.limits e)
@@ -48,6 +49,7 @@ state_sound periods horizon state less sound = record {
 utility_sound : (periods horizon : ℕ) (utility : Utility) → horizon ≤ periods → SoundUtility periods utility → SoundUtility horizon (utility_until horizon utility)
 utility_sound periods horizon utility less sound = record {
   name = sound.name;
+  label = sound.label;
   limits = let long = sound.limits in length-take-le horizon utility.limits (omega arith);
   limit = All-take (λ limit. limit ≤ 1000000000) horizon utility.limits sound.limit;
   rate = sound.rate;
@@ -69,7 +71,7 @@ held_sound plant horizon None less sound = tt
 held_sound plant horizon (Some last) less sound = last_sound plant horizon last less sound
 
 unit_sound : (plant : Plant) (horizon : ℕ) (unit : StnUnit) → horizon ≤ plant.periods → SoundUnit plant unit → SoundUnit (plant_at plant horizon) (unit_until horizon unit)
-unit_sound plant horizon unit less sound = record { name = sound.name; last = held_sound plant horizon unit.last less sound.last }
+unit_sound plant horizon unit less sound = record { name = sound.name; label = sound.label; last = held_sound plant horizon unit.last less sound.last }
 
 -- a unit that no batch held before is held by none within the horizon
 still_free : (horizon : ℕ) (unit : StnUnit) → unit.last ≡ None → option_map (last_until horizon) unit.last ≡ None
@@ -148,6 +150,14 @@ small_sound plant horizon sound less counts = record {
   rates = All-map (λ (utility : Utility). utility.rates ≡ []) (utility_until horizon) plant.utilities (All-each (λ (utility : Utility). utility.rates ≡ []) (λ utility. take horizon utility.rates ≡ []) plant.utilities (λ utility none. take-none horizon utility.rates none) counts.rates);
   gaps = counts.gaps;
   lasts = All-map (λ (unit : StnUnit). unit.last ≡ None) (unit_until horizon) plant.units (All-each (λ (unit : StnUnit). unit.last ≡ None) (λ unit. option_map (last_until horizon) unit.last ≡ None) plant.units (still_free horizon) counts.lasts);
+  unlabelled = record {
+    calendar = counts.unlabelled.calendar;
+    states = All-map (λ (state : State). state.label ≡ []) (state_until horizon) plant.states counts.unlabelled.states;
+    utilities = All-map (λ (utility : Utility). utility.label ≡ []) (utility_until horizon) plant.utilities counts.unlabelled.utilities;
+    units = All-map (λ (unit : StnUnit). unit.label ≡ []) (unit_until horizon) plant.units counts.unlabelled.units;
+    tasks = counts.unlabelled.tasks;
+    colours = counts.unlabelled.colours;
+  };
 }
 
 names_sound : (plant : Plant) (horizon : ℕ) → SoundNames plant → SoundNames (plant_at plant horizon)
@@ -168,6 +178,7 @@ shorter_sound plant horizon sound within =
     let same = alike plant horizon in
     record {
       counts = counts_sound plant horizon sound within;
+      calendar = sound.calendar;
       small = λ few. small_sound plant horizon sound within.1 (sound.small few);
       names = names_sound plant horizon sound.names;
       states = All-map (SoundState horizon) (state_until horizon) plant.states (All-each (SoundState plant.periods) (λ state. SoundState horizon (state_until horizon state)) plant.states (λ state. state_sound plant.periods horizon state within.1) sound.states);

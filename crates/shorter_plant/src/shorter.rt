@@ -38,6 +38,7 @@ fn made(alloc: Global, plant: &Plant, horizon: u32) -> Result<Plant, AllocError>
     Ok(Plant {
         large: plant.large,
         periods: horizon,
+        calendar: plant.calendar,
         states: states_until(alloc, plant.states.as_slice(), horizon)?,
         utilities: utilities_until(alloc, plant.utilities.as_slice(), horizon)?,
         units: units_until(alloc, plant.units.as_slice(), horizon)?,

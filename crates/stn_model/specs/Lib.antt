@@ -9,5 +9,6 @@ pub mod Violations
 pub mod Profit
 pub mod Best
 pub mod Points
+pub mod Labels
 pub mod Sound
 pub mod Answers

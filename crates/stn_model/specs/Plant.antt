@@ -15,19 +15,19 @@ use Rattle.stn_model.specs.Sums.{greatest_by}
 
 -- a task that takes and gives nothing, in the place of one that is not there
 abbrev pub no_task : Task
-no_task = record { name = []; quantum = 0; inputs = []; outputs = []; draws = [] }
+no_task = record { name = []; label = []; colour = []; quantum = 0; inputs = []; outputs = []; draws = [] }
 
 -- a state without stock or limit, in the place of one that is not there
 abbrev pub no_state : State
-no_state = record { name = []; initial = 0; limits = []; price = pos 0; holding = pos 0 }
+no_state = record { name = []; label = []; initial = 0; limits = []; price = pos 0; holding = pos 0 }
 
 -- a utility of which nothing is there, in the place of one that is not there
 abbrev pub no_utility : Utility
-no_utility = record { name = []; limits = []; rate = pos 0; rates = [] }
+no_utility = record { name = []; label = []; limits = []; rate = pos 0; rates = [] }
 
 -- a unit without a name, in the place of one that is not there
 abbrev pub no_unit : StnUnit
-no_unit = record { name = []; last = None }
+no_unit = record { name = []; label = []; last = None }
 
 -- a run of nothing, in the place of one that is not there
 abbrev pub no_run : Run

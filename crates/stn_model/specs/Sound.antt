@@ -18,6 +18,7 @@ use Rattle.stn_model.specs.declared.plant.Delivery.{Delivery}
 use Rattle.stn_model.specs.declared.plant.Outage.{Outage}
 use Rattle.stn_model.specs.Plant.{duration_of}
 use Rattle.stn_model.specs.Points.{slot_count, gap_pairs}
+use Rattle.stn_model.specs.Labels.{SoundLabel, SoundColour, SoundCalendar, Unlabelled}
 
 -- a number lies within a range, both ends included
 abbrev pub Within : ℕ → ℕ → ℕ → Type 0
@@ -39,6 +40,7 @@ IsPart quantum amount = (over : ℕ) × ((under : ℕ) × ((Within 1 under over)
 -- a state keeps its ranges, and has a limit for each time or none
 pub record SoundState (periods : ℕ) (state : State) : Type 0 where
   pub name : IsTrue (is_name state.name)
+  pub label : SoundLabel state.label
   pub initial : state.initial ≤ 1000000000
   pub limits : (state.limits ≡ []) ⊎ (length state.limits ≡ suc periods)
   pub limit : All (λ limit. limit ≤ 1000000000) state.limits
@@ -48,6 +50,7 @@ pub record SoundState (periods : ℕ) (state : State) : Type 0 where
 -- a utility keeps its ranges, has a limit for each period, and one rate, or in its place one for each period
 pub record SoundUtility (periods : ℕ) (utility : Utility) : Type 0 where
   pub name : IsTrue (is_name utility.name)
+  pub label : SoundLabel utility.label
   pub limits : length utility.limits ≡ periods
   pub limit : All (λ limit. limit ≤ 1000000000) utility.limits
   pub rate : unsigned_abs utility.rate ≤ 1000000
@@ -76,6 +79,8 @@ pub record SoundDraw (plant : Plant) (duration : ℕ) (draw : Draw) : Type 0 whe
 -- a task has inputs and outputs, and the parts of each side make up the quantum
 pub record SoundTask (plant : Plant) (task : Task) : Type 0 where
   pub name : IsTrue (is_name task.name)
+  pub label : SoundLabel task.label
+  pub colour : SoundColour task.colour
   pub quantum : Within 1 1000000 task.quantum
   pub inputs : Within 1 8 (length task.inputs)
   pub outputs : Within 1 8 (length task.outputs)
@@ -104,6 +109,7 @@ pub record SoundLast (plant : Plant) (last : Last) : Type 0 where
 -- a unit has a name, and keeps the ranges of the batch that held it last
 pub record SoundUnit (plant : Plant) (unit : StnUnit) : Type 0 where
   pub name : IsTrue (is_name unit.name)
+  pub label : SoundLabel unit.label
   pub last : IfSome unit.last (SoundLast plant)
 
 -- a gap is between tasks on a unit that are there
@@ -148,7 +154,7 @@ pub record SoundCounts (plant : Plant) : Type 0 where
   pub slots : slot_count plant ≤ 4096
   pub gap_pairs : gap_pairs plant ≤ 32768
 
--- a plant that is not large has fewer of each thing, one rate for each utility, shorter gaps, and no unit that a batch held before
+-- a plant that is not large has fewer of each thing, one rate for each utility, shorter gaps, no unit that a batch held before, and no labels
 pub record SmallCounts (plant : Plant) : Type 0 where
   pub states : length plant.states ≤ 40
   pub utilities : length plant.utilities ≤ 8
@@ -163,6 +169,7 @@ pub record SmallCounts (plant : Plant) : Type 0 where
   pub rates : All (λ utility. utility.rates ≡ []) plant.utilities
   pub gaps : All (λ gap. gap.periods ≤ 96) plant.gaps
   pub lasts : All (λ unit. unit.last ≡ None) plant.units
+  pub unlabelled : Unlabelled plant
 
 -- the items of one table have names of their own, and no task stands twice on one unit
 pub record SoundNames (plant : Plant) : Type 0 where
@@ -175,6 +182,7 @@ pub record SoundNames (plant : Plant) : Type 0 where
 -- a sound plant: what the reader of plant files gives, and what every other call asks for
 pub record Sound (plant : Plant) : Type 0 where
   pub counts : SoundCounts plant
+  pub calendar : IfSome plant.calendar SoundCalendar
   pub small : plant.large ≡ false → SmallCounts plant
   pub names : SoundNames plant
   pub states : All (SoundState plant.periods) plant.states

@@ -21,8 +21,8 @@ pub use limits::{depth_limit, limits_hold, slot_limit};
 pub use list::List;
 pub use outside::{all_payments, delivered_by, received_by};
 pub use plant::{
-    Delivery, Draw, Gap, Input, Last, Name, Outage, Output, Plant, Receipt, Run, State, StnUnit,
-    Task, Utility,
+    Calendar, Colour, Delivery, Draw, Gap, Input, Label, Last, Moment, Name, Outage, Output, Plant,
+    Receipt, Run, State, StnUnit, Task, Utility,
 };
 pub use questions::{
     change_cost, duration, end, first_cost, fits, gap_of, held_until, in_use, last_of, rate_in,

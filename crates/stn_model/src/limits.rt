@@ -94,6 +94,12 @@ pub const MIN_UNTIL: i32 = -336;
 /// The longest name, in bytes.
 pub const MAX_NAME: usize = 32;
 
+/// The longest label, in bytes.
+pub const MAX_LABEL: usize = 64;
+
+/// The longest period of a plant with a calendar, in minutes.
+pub const MAX_MINUTES: u32 = 10_080;
+
 /// Does nothing: its clauses say that the limits are the numbers that a sound plant keeps.
 pub fn limits_hold()
     ensures periods { MAX_PERIODS ≡ 336 }
@@ -126,6 +132,8 @@ pub fn limits_hold()
     ensures small_gap { SMALL_GAP ≡ 96 }
     ensures until { MIN_UNTIL ≡ negsuc 335 }
     ensures name { MAX_NAME ≡ 32 }
+    ensures label { MAX_LABEL ≡ 64 }
+    ensures minutes { MAX_MINUTES ≡ 10080 }
 {}
 
 /// How many slots a program over the plant may have, those of sums and setups among them.

@@ -6,6 +6,12 @@ use crate::list::List;
 /// A name, as its bytes.
 pub type Name = List<u8>;
 
+/// What a picture shows in the place of a name: 1 to 64 bytes of UTF-8 without control characters; empty where it shows the name.
+pub type Label = List<u8>;
+
+/// A colour, `#` and six hexadecimal digits; empty where a picture takes one of its own.
+pub type Colour = List<u8>;
+
 /// A plant: what there is, what it can do, and what comes and goes.
 #[derive(Drop)]
 pub struct Plant {
@@ -13,6 +19,8 @@ pub struct Plant {
     pub large: bool,
     /// The horizon: periods are numbered 0 to `periods - 1`, times 0 to `periods`.
     pub periods: u32,
+    /// When the plan begins by the clock, and how long a period is; no plan depends on it.
+    pub calendar: Option<Calendar>,
     pub states: List<State>,
     pub utilities: List<Utility>,
     pub units: List<StnUnit>,
@@ -24,10 +32,32 @@ pub struct Plant {
     pub outages: List<Outage>,
 }
 
+/// When the horizon begins, and how many minutes a period takes.
+#[derive(Clone, Copy)]
+pub struct Calendar {
+    pub start: Moment,
+    /// From 1 to 10,080, a week.
+    pub minutes: u32,
+}
+
+/// A local date and time of day, in whole seconds.
+#[derive(Clone, Copy)]
+pub struct Moment {
+    pub year: u16,
+    /// From 1.
+    pub month: u8,
+    /// From 1.
+    pub day: u8,
+    pub hour: u8,
+    pub minute: u8,
+    pub second: u8,
+}
+
 /// A material: a feed, an intermediate or a product.
 #[derive(Drop)]
 pub struct State {
     pub name: Name,
+    pub label: Label,
     /// The stock before anything moves, in mass units.
     pub initial: u64,
     /// The storage limit at each time, in mass units; empty where there is none.
@@ -42,6 +72,7 @@ pub struct State {
 #[derive(Drop)]
 pub struct Utility {
     pub name: Name,
+    pub label: Label,
     /// How much is there in each period.
     pub limits: List<u64>,
     /// What one unit of it costs in a period, in money, where `rates` is empty.
@@ -54,6 +85,7 @@ pub struct Utility {
 #[derive(Drop)]
 pub struct StnUnit {
     pub name: Name,
+    pub label: Label,
     /// The batch that held the unit before all starts of a plan, if one did.
     pub last: Option<Last>,
 }
@@ -70,6 +102,8 @@ pub struct Last {
 #[derive(Drop)]
 pub struct Task {
     pub name: Name,
+    pub label: Label,
+    pub colour: Colour,
     /// The mass of one quantum of a batch, in mass units.
     pub quantum: u32,
     pub inputs: List<Input>,

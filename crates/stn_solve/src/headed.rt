@@ -65,19 +65,6 @@ pub fn solve_headed_to<A: Advisers, F: Shelf>(
     ensures failed { result ≡ Err Stop.Failed
         → Rose (F.write_faults files.old) (F.write_faults files.new) }
 {
-    let Beginning {
-        headed,
-        point,
-        least,
-    } = begun_at::<A>(alloc, plant, part, judged, start)?;
-    solve_over::<A, _>(
-        alloc,
-        plant,
-        &headed,
-        least,
-        budget,
-        point.as_slice(),
-        files,
-        name,
-    )
+    let begun = begun_at::<A>(alloc, plant, part, judged, start)?;
+    solve_over::<A, _>(alloc, plant, begun, budget, files, name)
 }

@@ -17,7 +17,7 @@ use crate::solved::Solved;
 use box_advice::Advisers;
 use branch_tree::{Ended, Searched};
 use log_lines::{Line, put_line};
-use logged_search::{Logged, SplitRules, search_built, search_logged, search_only};
+use logged_search::{Logged, SearchRequest, SplitRules, search_built, search_logged, search_only};
 use plan_told::{Told, told_of};
 use row_relax::Rows;
 use std::alloc::{AllocError, Global};
@@ -131,12 +131,15 @@ pub fn solve_plain_to<A: Advisers, F: Shelf>(
         floors: false,
         most: depth_limit(plant),
     };
-    let Logged { ended, writer } = search_logged::<A, _>(
-        alloc,
+    let sought = SearchRequest {
         rows,
         rules,
         budget,
         start,
+    };
+    let Logged { ended, writer } = search_logged::<A, _>(
+        alloc,
+        &sought,
         head.as_slice(),
         files,
         name,

@@ -7,10 +7,11 @@ ghost use Rattle.plan_told.specs.Proofs.{bytes_in};
 ghost use Rattle.logged_search.specs.Logging.{LeavesBegun};
 ghost use Rattle.stn_solve.specs.laws.Telling.{CanPlanOver, IsToldOver};
 
+use crate::beginning::Beginning;
 use crate::telling::{told_given, told_larger};
 use box_advice::Advisers;
 use head_choice::Headed;
-use logged_search::{Logged, SplitRules, search_logged, search_only};
+use logged_search::{Logged, SearchRequest, SplitRules, search_logged, search_only};
 use plan_told::Told;
 use row_kit::Found;
 use std::alloc::{AllocError, Global};
@@ -43,39 +44,40 @@ pub fn plan_over<A: Advisers>(
 pub fn solve_over<A: Advisers, F: Shelf>(
     alloc: Global,
     plant: &Plant,
-    headed: &Headed,
-    least: Option<Found>,
+    begun: Beginning,
     budget: u32,
-    point: &[u8],
     files: &mut F,
     name: &str,
 ) -> Result<Outcome, Stop>
-    requires can { CanPlanOver plant.now headed.now least budget }
+    requires can { CanPlanOver plant.now begun.headed begun.least budget }
     requires allowed { IsTrue (F.may_write files.old name.now) }
-    ensures told { IfOk result (IsToldOver plant.now headed.now least budget point.now
+    ensures told { IfOk result (IsToldOver plant.now begun.headed begun.least budget begun.point
         (bytes_in name.now (F.files files.new))) }
-    ensures err { OnErr result (LeavesBegun (depth_limit plant.now) headed.now.rows true
-        headed.now.head.items name.now (F.files files.old) (F.files files.new)) }
+    ensures err { OnErr result (LeavesBegun (depth_limit plant.now) begun.headed.rows true
+        begun.headed.head.items name.now (F.files files.old) (F.files files.new)) }
     ensures frame { WritesOne F.Shelf name.now files.old files.new }
     ensures failed { result ≡ Err Stop.Failed
         → Rose (F.write_faults files.old) (F.write_faults files.new) }
 {
+    let Beginning {
+        headed,
+        point,
+        least,
+    } = begun;
     let rules = SplitRules {
         given: headed.given,
         floors: true,
         most: depth_limit(plant),
     };
-    let head = headed.head.as_slice();
-    let Logged { ended, writer } = search_logged::<A, _>(
-        alloc,
-        &headed.rows,
+    let start = point.as_slice();
+    let sought = SearchRequest {
+        rows: &headed.rows,
         rules,
         budget,
-        point,
-        head,
-        files,
-        name,
-    )?;
+        start,
+    };
+    let head = headed.head.as_slice();
+    let Logged { ended, writer } = search_logged::<A, _>(alloc, &sought, head, files, name)?;
     let sums = headed.sums.as_slice();
     let told = told_larger(alloc, plant, sums, headed.given, least, ended)?;
     writer.finish(files, &told.claim)?;

@@ -4,6 +4,7 @@
 //! once. What the words ask for, what all commands share, and the commands themselves stand in crates below.
 #![tactic(auto)]
 
+mod rooms;
 pub mod top;
 
 pub use answer_texts::checked;

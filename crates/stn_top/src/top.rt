@@ -5,27 +5,18 @@ ghost use Rattle.stn_edge.specs.Count.{Rose};
 ghost use Rattle.stn_edge.specs.Text.{extended};
 ghost use Rattle.command_words.specs.Words.{Request, Says, HasNoForm, texts, meaning};
 ghost use Rattle.command_replies.specs.Answers.{IsUnwritten};
-ghost use Rattle.command_replies.specs.Sources.{IfReplied};
-ghost use Rattle.demo_commands.specs.Demo.{Shown};
 ghost use Rattle.stn_top.specs.Requests.{MayRead, MayWrite, WritesApart, OthersKept, IsAnswer, IsLeft, GetsToWriting, ReadsFirst};
 ghost use Rattle.stn_top.specs.Replies.{IsReply, Answered, IsCutOff, MayReadAll, MayWriteAll, LogFailed, PutFailed, SayReadsFirst, IsPutOnce};
 ghost use Rattle.stn_top.specs.Done.{IsDone};
 
-use best_first::BestFirst;
+use crate::rooms::{
+    conflict_reply, demonstrate, horizon_reply, listing_reply, log_reply, part_reply, plan_reply,
+    planning_reply, replanning_reply, resume_reply,
+};
 use command_replies::{Reply, Stopped};
 use command_words::{Command, command_of};
-use conflict_commands::{check_conflict_file, find_file, find_log_file};
-use demo_commands::show;
-use horizon_commands::{audit_file, seek_file, trace_file};
-use listing_commands::{list_file, show_file};
-use log_commands::{check_file, check_replan_file};
-use part_commands::{join_file, parts_file};
-use plan_commands::{roll_file, simulate_file, upgrade_file};
-use planning_commands::{plan_on_file, solve_file, solve_part_file};
-use resume_commands::{merge_files, resume_file};
 use std::alloc::Global;
 use stn_edge::{Shelf, Sink, Stop};
-use tank_commands::estimate_file;
 
 /// Does what the words after the program's name say, and answers with the exit status.
 ///
@@ -66,7 +57,7 @@ use tank_commands::estimate_file;
 /// | `merge PLANT STEM COUNT OUT` | checks COUNT logs (1 to 256), STEM.0, STEM.1 and so on, and writes the log that is merged of them, or says what speaks against the first that is not valid; OUT is neither the word PLANT nor the name of one of STEM.0 to STEM.255 |
 ///
 /// Statuses: 0 optimal, feasible, reported, upgraded, rolled, valid, estimated, listed, joined or merged; 1 no plan is feasible, the plan is not or what is kept of it can't be, or a log is not valid; 2 the words have no
-/// form; 3 the plant file has a fault; 4 the plan file has one; 5 STATE is not the name of a state with limits, the plant has fewer slots than LEVELS, PERIOD is not before the horizon, or a rolled plant would have more than 900 receipts; 6 the budget was spent; 7 a file could not be
+/// form; 3 the plant file has a fault; 4 the plan file has one; 5 STATE is not the name of a state with limits, the plant has fewer slots than LEVELS, PERIOD is not before the horizon, or a rolled plant would have more than 900 receipts or begin past the year 9999; 6 the budget was spent; 7 a file could not be
 /// read; 8 the log could not be written or the answer could not be put; 9 no memory, or the log that `resume` or `merge` wrote does not stand its judgement. The answer is put at once, after all
 /// work. No file changes but the logs that the words name.
 pub fn run<F: Shelf, K: Sink>(alloc: Global, words: &[&str], files: &mut F, out: &mut K) -> u8
@@ -193,129 +184,24 @@ fn reply_to<F: Shelf>(alloc: Global, command: Command, files: &mut F) -> Result<
     ensures writable { F.may_write files.new ≡ F.may_write files.old }
 {
     match command {
-        Command::Solve { plant, budget } => solve_file::<BestFirst, _>(
-            alloc, files, plant, budget, None,
+        Command::Solve { .. } | Command::Log { .. } | Command::SolvePart { .. } => planning_reply(
+            alloc, command, files,
         ),
-        Command::Log { plant, budget, log } => solve_file::<BestFirst, _>(
-            alloc,
-            files,
-            plant,
-            budget,
-            Some(log),
+        Command::Replan { .. } | Command::LogReplan { .. } | Command::Improve { .. } =>
+            replanning_reply(alloc, command, files),
+        Command::Least { .. } | Command::LeastLogs { .. } | Command::CheckLeast { .. } =>
+            horizon_reply(alloc, command, files),
+        Command::Conflict { .. } | Command::ConflictLogs { .. } | Command::CheckConflict { .. } =>
+            conflict_reply(alloc, command, files),
+        Command::Simulate { .. } | Command::Upgrade { .. } | Command::Roll { .. } => plan_reply(
+            alloc, command, files,
         ),
-        Command::Simulate { usage, plant, plan } => simulate_file(alloc, files, usage, plant, plan),
-        Command::Check { plant, log } => check_file(alloc, files, plant, log),
-        Command::Plan { plant, log } => show_file(alloc, files, plant, log),
-        Command::Slots { plant } => list_file(alloc, files, plant),
-        Command::Upgrade { plant } => upgrade_file(alloc, files, plant),
+        Command::Plan { .. } | Command::Slots { .. } => listing_reply(alloc, command, files),
+        Command::Check { .. } | Command::CheckReplan { .. } | Command::Estimate { .. } => log_reply(
+            alloc, command, files,
+        ),
+        Command::Parts { .. } | Command::Join { .. } => part_reply(alloc, command, files),
+        Command::Resume { .. } | Command::Merge { .. } => resume_reply(alloc, command, files),
         Command::Demo { seed } => demonstrate(alloc, seed),
-        Command::Replan {
-            plant,
-            plan,
-            period,
-            budget,
-        } => plan_on_file::<BestFirst, _>(
-            alloc,
-            files,
-            plant,
-            plan,
-            Some(period.number),
-            budget,
-            None,
-        ),
-        Command::LogReplan {
-            plant,
-            plan,
-            period,
-            budget,
-            log,
-        } => plan_on_file::<BestFirst, _>(
-            alloc,
-            files,
-            plant,
-            plan,
-            Some(period.number),
-            budget,
-            Some(log),
-        ),
-        Command::CheckReplan {
-            plant,
-            plan,
-            period,
-            log,
-        } => check_replan_file(alloc, files, plant, plan, period, log),
-        Command::Roll {
-            plant,
-            plan,
-            period,
-            rest,
-        } => roll_file(alloc, files, plant, plan, period, rest),
-        Command::Improve {
-            plant,
-            plan,
-            budget,
-            log,
-        } => plan_on_file::<BestFirst, _>(alloc, files, plant, plan, None, budget, log),
-        Command::Estimate {
-            plant,
-            log,
-            state,
-            steps,
-        } => estimate_file(alloc, files, plant, log, state, steps),
-        Command::Least { plant, budget } => seek_file::<BestFirst, _>(alloc, files, plant, budget),
-        Command::LeastLogs {
-            plant,
-            budget,
-            stem,
-        } => trace_file::<BestFirst, _>(alloc, files, plant, budget, stem),
-        Command::CheckLeast {
-            plant,
-            horizon,
-            stem,
-        } => audit_file(alloc, files, plant, horizon, stem),
-        Command::Conflict { plant, budget } => find_file::<BestFirst, _>(
-            alloc, files, plant, budget,
-        ),
-        Command::ConflictLogs {
-            plant,
-            budget,
-            stem,
-        } => find_log_file::<BestFirst, _>(alloc, files, plant, budget, stem),
-        Command::CheckConflict { plant, stem } => check_conflict_file(alloc, files, plant, stem),
-        Command::Parts { plant, levels } => parts_file(alloc, files, plant, levels),
-        Command::SolvePart {
-            plant,
-            part,
-            budget,
-            log,
-        } => solve_part_file::<BestFirst, _>(alloc, files, plant, part, budget, log),
-        Command::Join {
-            plant,
-            levels,
-            stem,
-            log,
-        } => join_file(alloc, files, plant, levels, stem, log),
-        Command::Resume {
-            plant,
-            log,
-            budget,
-            out,
-            share,
-        } => resume_file::<BestFirst, _>(alloc, files, plant, log, budget, out, share),
-        Command::Merge {
-            plant,
-            stem,
-            count,
-            out,
-        } => merge_files(alloc, files, plant, stem, count, out),
     }
-}
-
-// What the demonstration answers. It touches no file.
-fn demonstrate(alloc: Global, seed: u32) -> Result<Reply, Stopped>
-    ensures answer { IfReplied result (λ reply. Shown seed reply.status reply.text.items) }
-    ensures no_read { result ≢ Err Stopped.ReadFault }
-    ensures no_write { result ≢ Err Stopped.WriteFault }
-{
-    Ok(show::<BestFirst>(alloc, seed)?)
 }

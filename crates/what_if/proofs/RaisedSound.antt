@@ -31,6 +31,7 @@ raised_state-sound : (periods : ℕ) (amount : ℤ) (state : State) → SoundSta
 unfolding raised_state
 raised_state-sound periods amount state sound = record {
   name = sound.name;
+  label = sound.label;
   initial = sound.initial;
   limits = ⊎_elim
       (λ (none : state.limits ≡ []). inl (ap (map (raised_limit amount)) none))
@@ -76,9 +77,13 @@ module _ (plant : Plant) (states : List State) (same : length states ≡ length 
     gap_pairs = subst (λ (n : ℕ). n ≤ 32768) (sym gap_pairs-same) counts.gap_pairs;
   }
 
-  small-other : SmallCounts plant → SmallCounts other
+  -- states without labels, where the plant has none
+  abbrev Bare : Type 0
+  Bare = All (λ (state : State). state.label ≡ []) plant.states → All (λ (state : State). state.label ≡ []) states
+
+  small-other : Bare → SmallCounts plant → SmallCounts other
   unfolding other
-  small-other counts = record {
+  small-other bare counts = record {
     states = subst (λ (n : ℕ). n ≤ 40) (sym same) counts.states;
     utilities = counts.utilities;
     units = counts.units;
@@ -92,6 +97,14 @@ module _ (plant : Plant) (states : List State) (same : length states ≡ length 
     rates = counts.rates;
     gaps = counts.gaps;
     lasts = counts.lasts;
+    unlabelled = record {
+      calendar = counts.unlabelled.calendar;
+      states = bare counts.unlabelled.states;
+      utilities = counts.unlabelled.utilities;
+      units = counts.unlabelled.units;
+      tasks = counts.unlabelled.tasks;
+      colours = counts.unlabelled.colours;
+    };
   }
 
   names-other : SoundNames plant → AllPairs (λ a b. a.name ≢ b.name) states → SoundNames other
@@ -104,17 +117,20 @@ module _ (plant : Plant) (states : List State) (same : length states ≡ length 
   last-other (Some last) sound = record { task = sound.task; early = sound.early; late = sound.late }
 
   -- the plant with other states is sound where they are
-  sound-other : Sound plant → All (SoundState plant.periods) states → AllPairs (λ a b. a.name ≢ b.name) states → Sound other
+  sound-other : Sound plant → Bare → All (SoundState plant.periods) states → AllPairs (λ a b. a.name ≢ b.name) states → Sound other
   unfolding other
-  sound-other sound each names = record {
+  sound-other sound bare each names = record {
     counts = counts-other sound.counts;
-    small = λ is. small-other (sound.small is);
+    calendar = sound.calendar;
+    small = λ is. small-other bare (sound.small is);
     names = names-other sound.names names;
     states = each;
     utilities = sound.utilities;
-    units = λ k d lt. let unit = sound.units k d lt in record { name = unit.name; last = last-other _ unit.last };
+    units = λ k d lt. let unit = sound.units k d lt in record { name = unit.name; label = unit.label; last = last-other _ unit.last };
     tasks = λ k d lt. let task = sound.tasks k d lt in record {
       name = task.name;
+      label = task.label;
+      colour = task.colour;
       quantum = task.quantum;
       inputs = task.inputs;
       outputs = task.outputs;
@@ -149,6 +165,7 @@ raised-sound plant number step times sound lt =
     let amount = pos times *ℤ step in
     let own = raised_state amount (get_or plant.states number no_state) in
     sound-other plant (set plant.states number own) (length-set plant.states number own) sound
+    (λ bare. All-set (λ (state : State). state.label ≡ []) plant.states number own (bare number no_state lt) bare)
     (All-set (SoundState plant.periods) plant.states number own (raised_state-sound plant.periods amount (get_or plant.states number no_state) (sound.states number no_state lt)) sound.states)
     (λ i j d less in' same. sound.names.states i j d less (omega (arith, in', length-set plant.states number own))
     (sym (names-set plant.states number own i d lt refl) ∙ same ∙ names-set plant.states number own j d lt refl))

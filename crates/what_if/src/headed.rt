@@ -53,11 +53,13 @@ pub(crate) fn headed_log(
     requires sound { Sound plant.now }
     requires part { IsPartOf plant.now program }
     requires ranges { AreRanges program ranges.now }
-    requires stands { IsFront (limits_with program (depth_limit plant.now) 0) bytes.now (Front.Headed head) }
+    requires stands { IsFront (limits_with program (depth_limit plant.now) 0) bytes.now
+        (Front.Headed head) }
     requires kept { IsKeptHead (limits_with program (depth_limit plant.now) 0) head }
     ensures log { IfOk result (IsAnyOwnLog plant.now program ranges.now bytes.now) }
     ensures defect { (defect : Defect) → result ≡ Err (LogStop.Defect defect)
-        → IsHeadVerdict plant.now program ranges.now (depth_limit plant.now) bytes.now head (No defect) }
+        → IsHeadVerdict plant.now program ranges.now (depth_limit plant.now) bytes.now head
+        (No defect) }
 {
     let limits = plant_limits(plant, &program, head.sums.len());
     match setups_of(alloc, plant, &limits, head, bytes)? {
@@ -83,7 +85,8 @@ fn set_up_log(
     requires within { setups.head.bytes ≤ length bytes.now }
     ensures log { IfOk result (IsSetUpLog plant.now program ranges.now bytes.now setups) }
     ensures defect { (defect : Defect) → result ≡ Err (LogStop.Defect defect)
-        → IsSetUpVerdict plant.now program ranges.now (depth_limit plant.now) bytes.now setups (No defect) }
+        → IsSetUpVerdict plant.now program ranges.now (depth_limit plant.now) bytes.now setups
+        (No defect) }
 {
     match tail_of(alloc, &setups.limits, &setups.head, bytes)? {
         TailFront::Whole(tail) => tailed_log(alloc, plant, program, ranges, setups, tail, bytes),
@@ -111,8 +114,8 @@ fn tailed_log(
     requires tailed { IsTailHeld setups.limits setups.head tail }
     ensures log { IfOk result (IsTailedLog plant.now program ranges.now bytes.now setups tail) }
     ensures defect { (defect : Defect) → result ≡ Err (LogStop.Defect defect)
-        → IsTailVerdict plant.now program ranges.now (depth_limit plant.now) bytes.now setups (Whole tail)
-        (No defect) }
+        → IsTailVerdict plant.now program ranges.now (depth_limit plant.now) bytes.now setups
+        (Whole tail) (No defect) }
 {
     let slots = program.root.len();
     let limits = limits_behind(&setups, &tail);

@@ -60,8 +60,10 @@ fn with_limits(alloc: Global, state: &State, limits: List<u64>) -> Result<State,
     ensures { IfOk result (λ copy. copy ≡ with_limits state.now limits) }
 {
     let name = copied(alloc, state.name.as_slice())?;
+    let label = copied(alloc, state.label.as_slice())?;
     Ok(State {
         name,
+        label,
         initial: state.initial,
         limits,
         price: state.price,

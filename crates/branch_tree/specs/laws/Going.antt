@@ -21,8 +21,8 @@ pub record CanGoOn (most : ℕ) (rows : Rows) (going : GoingOn) : Type 0 where
 abbrev pub HasLeft : GoingOn → Type 0
 HasLeft going = going.reached.spent < going.ground.budget
 
--- the items of a proof of a box were put, over this view, with this certificate at hand
-abbrev pub HandsBox : {T O : Type 0} → (T → O → List RowItem → T → O → Type 0) → GoingOn → Cert → View → Capped → T → O → GoingOn → T → O → Type 0
-HandsBox took old held view cap t o new t2 o2 =
+-- the items of a proof of a box were put that stands below so many splits, over this view, with this certificate at hand
+abbrev pub HandsBox : {T O : Type 0} → (T → O → List RowItem → T → O → Type 0) → GoingOn → ℕ → Cert → View → Capped → T → O → GoingOn → T → O → Type 0
+HandsBox took old depth held view cap t o new t2 o2 =
     BoxHanded took (λ _. ⊤) (rows_of old.ground) old.ground.floors old.ground.given old.ground.budget old.ground.may_leave view cap
-    (record old.reached { changed = None; held = Some held }) t o new.reached t2 o2
+    (record old.reached { depth = depth; changed = None; held = Some held }) t o new.reached t2 o2

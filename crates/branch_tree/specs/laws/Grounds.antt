@@ -52,15 +52,29 @@ pub record IsGround (ground : Ground) : Type 0 where
   pub lists : length ground.index ≡ length (program_of ground).root
 
 -- a search stands in an area that fits, with a place for each slot, and below no more splits than there may be
-pub record StandsIn (ground : Ground) (view : View) (depth : ℕ) (reached : Reached) : Type 0 where
+pub record StandsIn (ground : Ground) (view : View) (reached : Reached) : Type 0 where
   pub indexed : IsGround ground
   pub fits : Fits (program_of ground) view
   pub places : length reached.point.items ≡ length (program_of ground).root
-  pub deep : depth + view_splits view ≤ ground.most
+  pub deep : reached.depth + view_splits view ≤ ground.most
   -- but for rows with an entry of the slot that was split last, each row has room
   pub room : IfSome reached.changed (λ slot. (slot < length (program_of ground).root) × HaveRoomBut (program_of ground).rows (slot ∷ []) (domains_of view))
   -- the point that is to be offered is lawful, and has an image in the area
   pub own : IfSome reached.own (λ found. IsGroup (choices_at ground) found × IsAmong (rows_of ground) view found.point)
+
+-- a search goes on in an area: it stands there, counted no more boxes than it may, and has no point of its own to offer
+pub record GoesOn (IsReady : Type 0) (ground : Ground) (view : View) (reached : Reached) : Type 0 where
+  pub ready : IsReady
+  pub stands : StandsIn ground view reached
+  pub within : reached.spent ≤ ground.budget
+  pub none : reached.own ≡ None
+
+-- a search leaves an area as it was before, counted no more boxes than it may, and has no point of its own to offer
+pub record LeavesOff (IsReady : Type 0) (ground : Ground) (area area2 : List (List Domain)) (reached : Reached) : Type 0 where
+  pub ready : IsReady
+  pub as_before : map view_of area2 ≡ map view_of area
+  pub within : reached.spent ≤ ground.budget
+  pub none : reached.own ≡ None
 
 -- a found point is lawful, and worth as much as each of two points that is lawful
 pub record IsOffered (program : Program) (first second : List ℕ) (own : Option Found) : Type 0 where
@@ -68,9 +82,10 @@ pub record IsOffered (program : Program) (first second : List ℕ) (own : Option
   pub least : IsWorth program first own
   pub given : IsWorth program second own
 
--- the start of a search: nothing is counted or found, and a lawful point is to be offered that is worth as much as the least point and
+-- the start of a search: it stands below no split, nothing is counted or found, and a lawful point is to be offered that is worth as much as the least point and
 -- as the point to begin with, where these are lawful
 pub record IsStart (rows : Rows) (start : List ℕ) (reached : Reached) : Type 0 where
+  pub depth : reached.depth ≡ 0
   pub spent : reached.spent ≡ 0
   pub best : reached.best ≡ None
   pub changed : reached.changed ≡ None

@@ -1,6 +1,7 @@
 -- What was written of a merged log. Only clauses of private functions cite it.
-use Rattle.std.specs.Prelude.{◌≡◌, ◌<◌, ℕ, ℤ, List, length, map, slice_get, slice_index_or, Option, Some, IfSome}
+use Rattle.std.specs.Prelude.{◌≡◌, ◌<◌, Bool, ℕ, ℤ, List, length, map, slice_get, slice_index_or, Option, Some, IfSome, IsTrue}
 use Rattle.stn_edge.specs.Files.{FileMap, file_of}
+use Rattle.stn_model.specs.declared.plant.Plant.{Plant}
 use Rattle.proof_log.specs.declared.claim.Claim.{Claim}
 use Rattle.proof_log.specs.declared.writer.LogWriter.{LogWriter}
 use Rattle.proof_tree.specs.declared.capped.Capped.{Capped}
@@ -10,13 +11,15 @@ use Rattle.row_relax.specs.declared.rows.Rows.{Rows}
 use Rattle.row_relax.specs.Choices.{steps_of}
 use Rattle.row_relax.specs.RowProofs.{RowTree}
 use Rattle.row_relax.specs.View.{view_of}
+use Rattle.valid_log.specs.declared.verdict.LogVerdict.TheVariants.{Yes}
+use Rattle.valid_log.specs.PlantLogs.{IsAnyChecked}
 use Rattle.valid_log.specs.SumTexts.{larger_claim}
 use Rattle.log_nodes.specs.Texts.{IsTextBehind}
 use Rattle.log_parts.specs.Heads.{front_text, joined_version}
 use Rattle.log_parts.specs.Joining.{plan_of}
 use Rattle.log_parts.specs.PartLogs.{logs_of, no_tree}
 use Rattle.log_parts.specs.laws.Copying.{whole_text}
-use Rattle.log_resuming.specs.Resumed.{profit_of}
+use Rattle.log_resuming.specs.Resumed.{IsNoMore, IsOpenClaim, cap_of, profit_of}
 use Rattle.merged_nodes.specs.declared.sources.Source.{Source}
 use Rattle.merge_ends.specs.declared.readers.Work.{Work}
 use Rattle.merged_nodes.specs.Merged.{IsMerged}
@@ -45,3 +48,10 @@ pub record IsWritten (work : Work) (best : Claim) (logs : ℕ → List ℕ) (byt
 -- the same of the files before and after, where they are told
 abbrev pub HasWritten : Work → Claim → List ℕ → List ℕ → Option FileMap → Option FileMap → Claim → Type 0
 HasWritten work best stem out old new claim = IfSome old (λ m. IfSome new (λ n. IsWritten work best (logs_of m stem) (file_of n out) claim))
+
+-- the same of a log that suits the claims of the others, and is valid for the plant with its claim
+pub record HasWrittenChecked (plant : Plant) (work : Work) (best : Claim) (settled : Bool) (stem out : List ℕ) (old new : Option FileMap) (claim : Claim) : Type 0 where
+  pub written : HasWritten work best stem out old new claim
+  pub valid : IfSome new (λ n. IsAnyChecked plant (file_of n out) (Yes claim))
+  pub cap : IsNoMore (cap_of best) (cap_of claim)
+  pub not_open : IsTrue settled → ¬ IsOpenClaim claim

@@ -1,5 +1,5 @@
 -- What was written of a merged proof, and read of the logs. Only clauses of what merges cite it.
-use Rattle.std.specs.Prelude.{◌≡◌, ◌≤◌, ◌<◌, ◌+◌, ℕ, ℤ, List, ◌++◌, length, slice_get, slice_index_or, Option, Some, None, IsSomeAnd, IsTrue}
+use Rattle.std.specs.Prelude.{◌≡◌, ◌≤◌, ◌<◌, ℕ, ℤ, List, ◌++◌, length, slice_get, slice_index_or, Option, Some, None, IsSomeAnd, IsTrue}
 use Rattle.stn_edge.specs.Files.{FileMap}
 use Rattle.stn_edge.specs.declared.shelf.Shelf.{Ghosts}
 use Rattle.row_kit.specs.declared.domain.Domain.{Domain}

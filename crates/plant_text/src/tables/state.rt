@@ -3,11 +3,12 @@ ghost use Rattle.std.specs.Prelude.{length};
 ghost use Rattle.plant_text.specs.Tables.{state_tests, state_of};
 
 use crate::fault::{Place, PlantStop, TableName};
-use crate::find::{has, key, read_fields};
+use crate::find::{key, read_fields};
+use crate::labels::label;
 use crate::rows::Row;
 use crate::scope::{Context, Owner};
 use crate::tables::limits::limits;
-use crate::values::{Several, count, count_if_there, money, name};
+use crate::values::{count, count_if_there, money, name, several};
 use std::alloc::Global;
 use stn_model::State;
 use stn_model::limits::{MAX_AMOUNT, MAX_PRICE};
@@ -32,13 +33,10 @@ impl Row for State {
             item: number as u32 + 1,
             inner: 0,
         };
-        let several = Several {
-            forbidden: has(value, key!(optional Limit)),
-            many: context.periods + 1,
-            most: MAX_AMOUNT as u32,
-        };
+        let several = several!(value, unless Limit; context.periods + 1, MAX_AMOUNT as u32);
         read_fields! { value, place;
             name: (needed Name) = name(alloc; &context.states, number);
+            label: (since context.third, Label) = label(alloc;);
             initial: (optional Initial) = count(; 0, MAX_AMOUNT as u32, 0);
             limit: (optional Limit) = count_if_there(; 0, MAX_AMOUNT as u32);
             limits: (since context.second, Limits) = limits(alloc; several, limit);
@@ -47,6 +45,7 @@ impl Row for State {
         }
         Ok(State {
             name,
+            label,
             initial: u64::from(initial),
             limits,
             price,

@@ -4,6 +4,7 @@ ghost use Rattle.plant_text.specs.Tables.{task_tests, task_of, input_of, duratio
 
 use crate::fault::{Place, PlantStop, TableName};
 use crate::find::{key, read_fields};
+use crate::labels::{colour, label};
 use crate::rows::Row;
 use crate::scope::{Context, Owner};
 use crate::tables::side::sides;
@@ -68,6 +69,8 @@ impl Row for Task {
         };
         read_fields! { value, place;
             name: (needed Name) = name(alloc; &context.tasks, earlier.len());
+            label: (since context.third, Label) = label(alloc;);
+            colour: (since context.third, Colour) = colour(alloc;);
             quantum: (needed Quantum) = count(; 1, MAX_QUANTUM, 0);
             inputs: (needed Input) = sides(alloc; context, Owner { table: TableName::Input, item, duration: 0 }, quantum);
             outputs: (needed Output) = sides(alloc; context, Owner { table: TableName::Output, item, duration: 0 }, quantum);
@@ -75,6 +78,8 @@ impl Row for Task {
         }
         Ok(Task {
             name,
+            label,
+            colour,
             quantum,
             inputs: inputs_of(alloc, inputs.as_slice())?,
             outputs,

@@ -9,6 +9,7 @@ ghost use Rattle.plant_text.specs.Tables.{unit_of, unit_tests, unit_place, is_st
 
 use crate::fault::{KeyName, Place, PlantStop, TableName};
 use crate::find::{find, has, key, read_fields};
+use crate::labels::label;
 use crate::rows::Row;
 use crate::scope::{Context, Owner};
 use crate::values::{Span, name, place_if_there, time};
@@ -71,11 +72,13 @@ impl Row for StnUnit {
         let span = until_span(told, context.periods);
         read_fields! { value, place;
             name: (needed Name) = name(alloc; &context.units, earlier.len());
+            label: (since context.third, Label) = label(alloc;);
             last: (since context.third, Last) = place_if_there(; &context.tasks);
             until: (since context.third, Until) = time(; span);
         }
         Ok(StnUnit {
             name,
+            label,
             last: last_of(last, until),
         })
     }

@@ -4,10 +4,11 @@ ghost use Rattle.plant_text.specs.Tables.{utility_of, utility_tests};
 
 use crate::fault::{Place, PlantStop, TableName};
 use crate::find::{has, key, read_fields};
+use crate::labels::label;
 use crate::rows::Row;
 use crate::scope::{Context, Owner};
 use crate::tables::limits::limits;
-use crate::values::{Several, amounts, count_if_there, money, name};
+use crate::values::{amounts, count_if_there, money, name, several};
 use std::alloc::Global;
 use stn_model::Utility;
 use stn_model::limits::{MAX_AMOUNT, MAX_PRICE};
@@ -32,18 +33,11 @@ impl Row for Utility {
             inner: 0,
         };
         let listed = has(value, key!(since context.second, Limits));
-        let several = Several {
-            forbidden: has(value, key!(optional Limit)),
-            many: context.periods,
-            most: MAX_AMOUNT as u32,
-        };
-        let by_period = Several {
-            forbidden: has(value, key!(optional Rate)),
-            many: context.periods,
-            most: MAX_PRICE,
-        };
+        let several = several!(value, unless Limit; context.periods, MAX_AMOUNT as u32);
+        let by_period = several!(value, unless Rate; context.periods, MAX_PRICE);
         read_fields! { value, place;
             name: (needed Name) = name(alloc; &context.utilities, earlier.len());
+            label: (since context.third, Label) = label(alloc;);
             limit: (needed Limit unless listed) = count_if_there(; 0, MAX_AMOUNT as u32);
             limits: (since context.second, Limits) = limits(alloc; several, limit);
             rate: (optional Rate) = money(; MAX_PRICE);
@@ -51,6 +45,7 @@ impl Row for Utility {
         }
         Ok(Utility {
             name,
+            label,
             limits,
             rate,
             rates,

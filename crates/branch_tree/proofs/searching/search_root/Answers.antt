@@ -28,7 +28,7 @@ pub returns-clause-ok : goal.returns-clause-ok
 returns-clause-ok g c =
     let root = root-searched g.T.NodeTaker.took c.args.ground.now.most (rows_of c.args.ground.now) c.args.ground.now.floors c.args.start.now c.args.ground.now.given c.args.ground.now.budget c.args.ground.now.may_leave c.in_ok-cap.cap c.in_ok-reached.reached c.search_box.new.reached c.exceeds-left_open.result
     c.args.taker.now c.args.out.now c.search_box.new.taker c.search_box.new.out c.in_ok-area.area c.worth_of.result
-    (record { images = c.requires.images; program = c.requires.ground.searchable }) c.in_ok-area.ensures.root c.in_ok-cap.ensures.handed c.in_ok-reached.ensures c.in_ok-cap.ensures.own c.in_ok-cap.ensures.within c.worth_of.ensures c.exceeds-left_open.ensures in
+    (record { images = c.requires.images; program = c.requires.ground.searchable }) c.in_ok-area.ensures.root c.in_ok-cap.ensures.handed c.in_ok-reached.ensures c.in_ok-cap.ensures.own c.in_ok-cap.ensures.left.within c.worth_of.ensures c.exceeds-left_open.ensures in
     root-taken g.T.NodeTaker.took c.args.ground.now.most (rows_of c.args.ground.now) c.args.ground.now.floors c.args.start.now c.args.ground.now.given c.args.ground.now.budget c.args.ground.now.may_leave c.in_ok-cap.cap c.in_ok-reached.reached c.search_box.new.reached c.exceeds-left_open.result
     c.args.taker.now c.args.out.now c.search_box.new.taker c.search_box.new.out root (g.met.T.NodeTaker.took_none c.args.taker.now c.args.out.now)
 
@@ -36,7 +36,7 @@ pub returns-clause-begun : goal.returns-clause-begun
 returns-clause-begun g c =
     let root = root-searched g.T.NodeTaker.took c.args.ground.now.most (rows_of c.args.ground.now) c.args.ground.now.floors c.args.start.now c.args.ground.now.given c.args.ground.now.budget c.args.ground.now.may_leave c.in_ok-cap.cap c.in_ok-reached.reached c.search_box.new.reached c.exceeds-left_open.result
     c.args.taker.now c.args.out.now c.search_box.new.taker c.search_box.new.out c.in_ok-area.area c.worth_of.result
-    (record { images = c.requires.images; program = c.requires.ground.searchable }) c.in_ok-area.ensures.root c.in_ok-cap.ensures.handed c.in_ok-reached.ensures c.in_ok-cap.ensures.own c.in_ok-cap.ensures.within c.worth_of.ensures c.exceeds-left_open.ensures in
+    (record { images = c.requires.images; program = c.requires.ground.searchable }) c.in_ok-area.ensures.root c.in_ok-cap.ensures.handed c.in_ok-reached.ensures c.in_ok-cap.ensures.own c.in_ok-cap.ensures.left.within c.worth_of.ensures c.exceeds-left_open.ensures in
     root-begun g.T.NodeTaker.took c.args.ground.now.most (rows_of c.args.ground.now) c.args.ground.now.floors c.args.start.now c.args.ground.now.given c.args.ground.now.budget c.args.ground.now.may_leave c.in_ok-cap.cap c.in_ok-reached.reached c.search_box.new.reached c.exceeds-left_open.result
     c.args.taker.now c.args.out.now c.search_box.new.taker c.search_box.new.out root
 
@@ -44,7 +44,7 @@ pub returns-clause-exact : goal.returns-clause-exact
 returns-clause-exact g c never =
     let root = root-searched g.T.NodeTaker.took c.args.ground.now.most (rows_of c.args.ground.now) c.args.ground.now.floors c.args.start.now c.args.ground.now.given c.args.ground.now.budget c.args.ground.now.may_leave c.in_ok-cap.cap c.in_ok-reached.reached c.search_box.new.reached c.exceeds-left_open.result
     c.args.taker.now c.args.out.now c.search_box.new.taker c.search_box.new.out c.in_ok-area.area c.worth_of.result
-    (record { images = c.requires.images; program = c.requires.ground.searchable }) c.in_ok-area.ensures.root c.in_ok-cap.ensures.handed c.in_ok-reached.ensures c.in_ok-cap.ensures.own c.in_ok-cap.ensures.within c.worth_of.ensures c.exceeds-left_open.ensures in
+    (record { images = c.requires.images; program = c.requires.ground.searchable }) c.in_ok-area.ensures.root c.in_ok-cap.ensures.handed c.in_ok-reached.ensures c.in_ok-cap.ensures.own c.in_ok-cap.ensures.left.within c.worth_of.ensures c.exceeds-left_open.ensures in
     root-exact g.T.NodeTaker.took c.args.ground.now.most (rows_of c.args.ground.now) c.args.ground.now.floors c.args.start.now c.args.ground.now.given c.args.ground.now.budget c.args.ground.now.may_leave c.in_ok-cap.cap c.in_ok-reached.reached c.search_box.new.reached c.exceeds-left_open.result
     c.args.taker.now c.args.out.now c.search_box.new.taker c.search_box.new.out root
     (root-full g.T.NodeTaker.took c.args.ground.now.most (rows_of c.args.ground.now) c.args.ground.now.floors c.args.start.now c.args.ground.now.given c.args.ground.now.budget c.args.ground.now.may_leave c.in_ok-cap.cap c.in_ok-reached.reached c.search_box.new.reached c.exceeds-left_open.result
@@ -54,6 +54,6 @@ pub returns-clause-guided : goal.returns-clause-guided
 returns-clause-guided g c full =
     let root = root-searched g.T.NodeTaker.took c.args.ground.now.most (rows_of c.args.ground.now) c.args.ground.now.floors c.args.start.now c.args.ground.now.given c.args.ground.now.budget c.args.ground.now.may_leave c.in_ok-cap.cap c.in_ok-reached.reached c.search_box.new.reached c.exceeds-left_open.result
     c.args.taker.now c.args.out.now c.search_box.new.taker c.search_box.new.out c.in_ok-area.area c.worth_of.result
-    (record { images = c.requires.images; program = c.requires.ground.searchable }) c.in_ok-area.ensures.root c.in_ok-cap.ensures.handed c.in_ok-reached.ensures c.in_ok-cap.ensures.own c.in_ok-cap.ensures.within c.worth_of.ensures c.exceeds-left_open.ensures in
+    (record { images = c.requires.images; program = c.requires.ground.searchable }) c.in_ok-area.ensures.root c.in_ok-cap.ensures.handed c.in_ok-reached.ensures c.in_ok-cap.ensures.own c.in_ok-cap.ensures.left.within c.worth_of.ensures c.exceeds-left_open.ensures in
     root-exact g.T.NodeTaker.took c.args.ground.now.most (rows_of c.args.ground.now) c.args.ground.now.floors c.args.start.now c.args.ground.now.given c.args.ground.now.budget c.args.ground.now.may_leave c.in_ok-cap.cap c.in_ok-reached.reached c.search_box.new.reached c.exceeds-left_open.result
     c.args.taker.now c.args.out.now c.search_box.new.taker c.search_box.new.out root (λ over. full)

@@ -17,6 +17,6 @@ returns-in-Err-clause-bad g c defect is start number lines passed =
     let made : Defect = record { line = c.args.walk.now.line; kind = c.in-Err.kind } in
     let same : made ≡ defect = cc in
     let derived = c.args.derived.now in
-    subst (HasBadPart files name start number c.args.slots c.args.rows derived (next_part derived c.args.counts.now) lines) same
-    (subst (λ n. HasBadPart files name start number c.args.slots c.args.rows derived n lines made) c.next_part-next.ensures
-    (part_bad files name start number lines c.args.walk.now c.next_line.new.walk c.in_ok-seen.seen c.args.slots c.args.rows derived c.next_part-next.result c.in-Err.kind passed (c.in_ok-seen.ensures.seen start number lines passed) c.in-Err.ensures))
+    subst (HasBadPart files name start number c.args.reach.slots c.args.reach.rows derived (next_part derived c.args.counts.now) lines) same
+    (subst (λ n. HasBadPart files name start number c.args.reach.slots c.args.reach.rows derived n lines made) c.next_part-next.ensures
+    (part_bad files name start number lines c.args.walk.now c.next_line.new.walk c.in_ok-seen.seen c.args.reach.slots c.args.reach.rows derived c.next_part-next.result c.in-Err.kind passed (c.in_ok-seen.ensures.seen start number lines passed) c.in-Err.ensures))

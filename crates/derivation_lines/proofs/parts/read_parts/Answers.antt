@@ -23,8 +23,8 @@ parts-preserved g c =
     let name = c.args.name.now in
     let derived = c.parts.derived in
     let counts = c.args.counts.now in
-    let slots = c.args.slots in
-    let rows = c.args.rows in
+    let slots = c.args.reach.slots in
+    let rows = c.args.reach.rows in
     let piece = c.in-Ok.piece in
     let next = c.in-Ok.ensures.piece in
     let is = c.in_ok-add_piece-in-Ok.ensures.ok in
@@ -60,5 +60,5 @@ returns-in-Err-clause-bad g c defect is start number lines passed =
       kept = i.kept;
       filling = i.filling;
       fewer = c.is_short.ensures.0 c.parts-test.true;
-      bad = subst (λ (f : Option FileMap). HasBadPart f name start number c.args.slots c.args.rows derived (next_part derived c.args.counts.now) at defect) i.same bad;
+      bad = subst (λ (f : Option FileMap). HasBadPart f name start number c.args.reach.slots c.args.reach.rows derived (next_part derived c.args.counts.now) at defect) i.same bad;
     }

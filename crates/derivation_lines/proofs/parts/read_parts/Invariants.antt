@@ -14,7 +14,7 @@ invariant-parts g l = record {
   writable : g.F.Shelf.may_write l.files ≡ g.F.Shelf.may_write l.initial.files;
   no_write : g.F.Shelf.write_faults l.files ≡ g.F.Shelf.write_faults l.initial.files;
   later : g.F.Shelf.read_faults l.initial.files ≤ g.F.Shelf.read_faults l.files;
-  kept : ArePartsKept l.slots l.rows l.derived;
+  kept : ArePartsKept l.reach.slots l.reach.rows l.derived;
   filling : IsFilling l.derived l.counts;
   head : HasHead l.initial.derived l.derived;
   goes : (start number : ℕ) (lines : List TailLine) → HasPassed (g.F.Shelf.files l.initial.files) l.name start number lines l.initial.walk → HasPassed (g.F.Shelf.files l.initial.files) l.name start number (lines ++ part_lines l.derived) l.walk;

@@ -1,5 +1,5 @@
 -- The end is as it was, or a proof stands in its place.
-use Rattle.std.proofs.Common.{◌∙◌, ℕ, List, Option, ap, subst}
+use Rattle.std.proofs.Common.{◌∙◌, ℕ, List, Option, ap, refl, subst}
 use Rattle.std.specs.Prelude.{Bool, ◌&&◌, if◌then◌else◌, IsTrue, IfSome}
 use Rattle.branch_tree.specs.Deep.{is_deep}
 use Rattle.row_relax.specs.RowProofs.{RowItem}
@@ -8,6 +8,7 @@ use Rattle.log_nodes.specs.laws.Seen.{seen}
 use Rattle.log_nodes.specs.laws.Nodes.{HasBelow, leaf_of}
 use Rattle.log_nodes.proofs.Readings.{reads-none}
 use Rattle.log_growth.proofs.Grows.{IsEndCount, new-end, same-end}
+use Rattle.log_growth.proofs.ReadOn.{at-some}
 use Rattle.log_growth.proofs.growing.grown_leaf.Goals as goal
 
 pub returns-then-is_same_node-clause-grown : goal.returns-then-is_same_node-clause-grown
@@ -25,8 +26,13 @@ returns-then-is_same_node-clause-grown g c =
       floors = c.leaf_growth-as_before.ensures.floors;
       before = c.leaf_growth-as_before.ensures.before;
     } in
-    same-end c.args.pair.most rows pair.profit pair.share c.args.place.depth c.args.place.number view c.args.node.now c.args.other.now reads reads_out c.leaf_growth-as_before.result c.requires.leaf (c.is_same_node.ensures c.if-is_same_node.true)
-    (reads-none told pair.log.now c.args.readers.now.log) (reads-none told pair.out.now c.args.readers.now.out) counts c.leaf_growth-as_before.ensures.after
+    record {
+      is_so = same-end c.args.pair.most rows pair.profit pair.share c.args.place.depth c.args.place.number view c.args.node.now c.args.other.now reads reads_out c.leaf_growth-as_before.result c.requires.leaf (c.is_same_node.ensures c.if-is_same_node.true)
+          (reads-none told pair.log.now c.args.readers.now.log) (reads-none told pair.out.now c.args.readers.now.out) counts c.leaf_growth-as_before.ensures.after;
+      log_reading = c.requires.log_reading;
+      out_reading = c.requires.out_reading;
+      as_before = refl;
+    }
 
 pub returns-in-Some-clause-grown : goal.returns-in-Some-clause-grown
 returns-in-Some-clause-grown g c =
@@ -49,5 +55,10 @@ returns-in-Some-clause-grown g c =
     let begins = may.begins grows in
     let opened = subst (λ (b : Bool). IsTrue b) c.is_open-open.ensures (may.opened grows) in
     let below = subst (λ (o : Option ℕ). IfSome o (HasBelow reads_out c.args.other.now.end)) c.in-Some.is c.in_ok-after.ensures.below in
-    new-end c.args.pair.most rows pair.profit pair.share c.args.place.depth c.args.place.number view c.args.node.now c.args.other.now reads reads_out (record whole { after = c.in-Some.after }) begins.0 c.requires.leaf (reads-none told pair.log.now c.args.readers.now.log)
-    (may.searched grows) opened begins.1 below counts
+    record {
+      is_so = new-end c.args.pair.most rows pair.profit pair.share c.args.place.depth c.args.place.number view c.args.node.now c.args.other.now reads reads_out (record whole { after = c.in-Some.after }) begins.0 c.requires.leaf (reads-none told pair.log.now c.args.readers.now.log)
+          (may.searched grows) opened begins.1 below counts;
+      log_reading = c.requires.log_reading;
+      out_reading = at-some _ c.in-Some.is c.in_ok-after.ensures.reading;
+      as_before = refl;
+    }

@@ -9,7 +9,7 @@ use Rattle.log_parts.specs.laws.Copying.{name_of}
 use Rattle.merged_nodes.specs.laws.Looked.{AreReading}
 use Rattle.merge_walk.specs.laws.Walked.{HasMerged}
 use Rattle.merge_ends.specs.laws.Begun.{HaveEnded}
-use Rattle.merged_nodes.proofs.Frames.{also-writes, both-then}
+use Rattle.log_parts.proofs.Frames.{also-writes, both-then}
 use Rattle.merge_walk.proofs.KeptLogs.{same-may-read, same-trees}
 use Rattle.log_merging.proofs.writing.merge_whole.Goals as goal
 

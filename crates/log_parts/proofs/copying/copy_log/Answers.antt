@@ -1,12 +1,11 @@
 -- The items that are read are put, one after another.
-use Rattle.std.proofs.Common.{◌∙◌, Option, None, Some, refl, sym, ap, subst, arith}
-use Rattle.std.specs.FinMap.{get}
-use Rattle.std.specs.Option.{option_map}
-use Rattle.stn_edge.specs.Files.{FileMap, OthersStay}
+use Rattle.std.proofs.Common.{◌∙◌, Option, None, Some, refl, sym, subst}
+use Rattle.stn_edge.specs.Files.{FileMap}
 use Rattle.log_lines.specs.declared.defect.Defect.{Defect}
 use Rattle.proof_log.specs.LogReading.{IsPartAfter}
 use Rattle.log_parts.specs.laws.Copying.{name_of, HasCopied, HasItems}
 use Rattle.log_parts.proofs.Copies.{HasReadOn, same_file, err_of, none_broken, on_broken, item_broken, copied_end, copied_bad, item_copied, claim_read, read_on}
+use Rattle.log_parts.proofs.Frames.{also-writes, both-none, both-then, item-put}
 use Rattle.log_parts.proofs.copying.copy_log.Goals as goal
 use Rattle.log_parts.proofs.copying.copy_log.Goals.{in-Item+in_ok-put_item-in-Item, in-Claim}
 
@@ -14,11 +13,7 @@ pub parts-init : goal.parts-init
 parts-init g c = record {
   on = read_on c.args.limits c.args.head c.args.name.now (g.F.Shelf.files c.args.files.now) c.args.writer.now c.in_ok-reader.reader (c.in_ok-reader.ensures (g.F.Shelf.files c.args.files.now) c.args.name.now);
   named = refl;
-  others = λ other apart. refl;
-  readable = refl;
-  writable = refl;
-  reads = omega arith;
-  writes = omega arith;
+  frame = both-none g.F.Shelf (name_of c.args.writer.now) c.args.files.now;
 }
 
 pub next-requires-clause-open : goal.next-requires-clause-open
@@ -67,23 +62,20 @@ parts-preserved g c =
     let still = c.in_ok-item.ensures.frame.same in
     let old = g.F.Shelf.files c.args.files.now in
     let now = g.F.Shelf.files c.parts.files in
+    let out = name_of c.args.writer.now in
     let part = c.in_ok-item.ensures.part 4 c.args.head c.args.limits on.items on.claim on.read in
     elim c.match-branch-3.branch [
       | in-Item+in_ok-put_item-in-Item w ↦
           let took = w.in_ok-put_item-in-Item.ensures in
           let next = g.F.Shelf.files w.put_item.new.files in
-          let stays : OthersStay (name_of c.args.writer.now) now next = λ other apart. took.others other (λ is. apart (is ∙ inv.named)) ∙ ap (option_map (λ (m : FileMap). get m other)) still in
+          let step = both-then g.F.Shelf out (name_of c.parts.writer) c.parts.files c.next.new.files w.put_item.new.files inv.named (also-writes g.F.Shelf out c.parts.files c.next.new.files c.in_ok-item.ensures.frame) (item-put g.F.Shelf (name_of c.parts.writer) c.next.new.files w.put_item.new.files took.others took.readable took.writable took.reads took.writes) in
           rw (w.writer-is, w.files-is) (record {
             on = item_copied c.args.limits c.args.head c.args.name.now old now next c.args.writer.now c.parts.writer w.put_item.new.writer c.parts.reader c.next.new.self w.in-Item.line w.in-Item.item on
                 (subst (IsPartAfter now c.args.name.now 4 c.args.head c.args.limits on.items on.claim c.next.new.self) w.in-Item.is part)
-                (same_file c.args.name.now now next (stays c.args.name.now (λ is. c.requires.apart (sym is))))
+                (same_file c.args.name.now now next (step.others c.args.name.now (λ is. c.requires.apart (sym is))))
                 (λ front items has. took.ok front items (subst (λ (told : Option FileMap). HasItems front c.parts.writer told items) (sym still) has));
             named = took.named ∙ inv.named;
-            others = λ other apart. stays other apart ∙ inv.others other apart;
-            readable = took.readable ∙ c.in_ok-item.ensures.frame.readable ∙ inv.readable;
-            writable = took.writable ∙ c.in_ok-item.ensures.frame.writable ∙ inv.writable;
-            reads = omega (arith, took.reads, c.in_ok-item.ensures.frame.later, inv.reads);
-            writes = omega (arith, took.writes, c.in_ok-item.ensures.frame.no_write, inv.writes);
+            frame = both-then g.F.Shelf out out c.args.files.now c.parts.files w.put_item.new.files refl inv.frame step;
           })
       | in-Claim w ↦
           rw (w.writer-is, w.files-is) (record {
@@ -91,11 +83,7 @@ parts-preserved g c =
                 (claim_read c.args.limits c.args.head c.args.name.now old now c.args.writer.now c.parts.writer c.parts.reader c.next.new.self w.in-Claim.line w.in-Claim.claim on
                 (subst (IsPartAfter now c.args.name.now 4 c.args.head c.args.limits on.items on.claim c.next.new.self) w.in-Claim.is part));
             named = inv.named;
-            others = λ other apart. ap (option_map (λ (m : FileMap). get m other)) still ∙ inv.others other apart;
-            readable = c.in_ok-item.ensures.frame.readable ∙ inv.readable;
-            writable = c.in_ok-item.ensures.frame.writable ∙ inv.writable;
-            reads = omega (arith, c.in_ok-item.ensures.frame.later, inv.reads);
-            writes = omega (arith, c.in_ok-item.ensures.frame.no_write, inv.writes);
+            frame = both-then g.F.Shelf out out c.args.files.now c.parts.files c.next.new.files refl inv.frame (also-writes g.F.Shelf out c.parts.files c.next.new.files c.in_ok-item.ensures.frame);
           })
     ]
 
@@ -103,3 +91,32 @@ pub returns-clause-err : goal.returns-clause-err
 returns-clause-err g c =
     let inv = c.parts.invariant in
     on_broken c.args.limits c.args.head c.args.name.now (g.F.Shelf.files c.args.files.now) (g.F.Shelf.files c.parts.files) (g.F.Shelf.files c.parts.files) c.args.writer.now c.parts.writer c.parts.reader inv.named refl inv.on
+
+-- ---- what is left of the store
+
+pub returns-in_err-reader-clause-frame : goal.returns-in_err-reader-clause-frame
+returns-in_err-reader-clause-frame g c = both-none g.F.Shelf (name_of c.args.writer.now) c.args.files.now
+
+pub returns-in_err-item-clause-frame : goal.returns-in_err-item-clause-frame
+returns-in_err-item-clause-frame g c =
+    let out = name_of c.args.writer.now in
+    both-then g.F.Shelf out out c.args.files.now c.parts.files c.next.new.files refl c.parts.invariant.frame (also-writes g.F.Shelf out c.parts.files c.next.new.files c.in_err-item.ensures.frame)
+
+pub returns-in_err-put_item-in-Item-clause-frame : goal.returns-in_err-put_item-in-Item-clause-frame
+returns-in_err-put_item-in-Item-clause-frame g c =
+    let out = name_of c.args.writer.now in
+    let inv = c.parts.invariant in
+    let put = c.in_err-put_item-in-Item.ensures in
+    both-then g.F.Shelf out out c.args.files.now c.parts.files c.put_item.new.files refl inv.frame
+    (both-then g.F.Shelf out (name_of c.parts.writer) c.parts.files c.next.new.files c.put_item.new.files inv.named (also-writes g.F.Shelf out c.parts.files c.next.new.files c.in_ok-item.ensures.frame)
+    (item-put g.F.Shelf (name_of c.parts.writer) c.next.new.files c.put_item.new.files put.others put.readable put.writable put.reads put.writes))
+
+pub returns-in-End-clause-frame : goal.returns-in-End-clause-frame
+returns-in-End-clause-frame g c =
+    let out = name_of c.args.writer.now in
+    both-then g.F.Shelf out out c.args.files.now c.parts.files c.next.new.files refl c.parts.invariant.frame (also-writes g.F.Shelf out c.parts.files c.next.new.files c.in_ok-item.ensures.frame)
+
+pub returns-in-Bad-clause-frame : goal.returns-in-Bad-clause-frame
+returns-in-Bad-clause-frame g c =
+    let out = name_of c.args.writer.now in
+    both-then g.F.Shelf out out c.args.files.now c.parts.files c.next.new.files refl c.parts.invariant.frame (also-writes g.F.Shelf out c.parts.files c.next.new.files c.in_ok-item.ensures.frame)

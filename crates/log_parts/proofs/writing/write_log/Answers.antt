@@ -3,10 +3,11 @@ use Rattle.std.proofs.Common.{◌∙◌, ◌^◌, ◌-◌, Option, subst}
 use Rattle.log_parts.specs.declared.joins.Joined.TheVariants.{No}
 use Rattle.log_parts.specs.declared.writing.BadPart.{BadPart}
 use Rattle.log_parts.specs.Heads.{front_text}
-use Rattle.log_parts.specs.laws.Copying.{items_over, HasJoined}
+use Rattle.log_parts.specs.laws.Copying.{items_over, name_of, HasJoined}
 use Rattle.log_parts.proofs.Copies.{err_of}
 use Rattle.log_parts.proofs.PartsCopied.{powered}
 use Rattle.log_parts.proofs.JoinWritten.{left_begin, left_broken, left_finish, bad_written, all_written}
+use Rattle.log_parts.proofs.Frames.{both-then, item-put}
 use Rattle.log_parts.proofs.writing.write_log.Goals as goal
 
 pub returns-in_err-writer-clause-err : goal.returns-in_err-writer-clause-err
@@ -14,14 +15,14 @@ returns-in_err-writer-clause-err g c =
     let old = g.F.Shelf.files c.args.files.now in
     let new = g.F.Shelf.files c.begin_log.new.files in
     err_of c.from_residual.result
-    (left_begin c.args.logs.limits c.args.logs.levels c.args.logs.stem.now c.args.logs.heads.now c.args.name.now (front_text c.args.version c.args.declared.now) c.args.larger.now old new c.in_err-writer.ensures.err)
+    (left_begin c.args.logs.limits c.args.logs.levels c.args.logs.stem.now c.args.logs.heads.now c.args.name.now (front_text c.args.front.version c.args.front.declared.now) c.args.larger.now old new c.in_err-writer.ensures.err)
 
 pub returns-in_err-part-clause-err : goal.returns-in_err-part-clause-err
 returns-in_err-part-clause-err g c =
     let limits = c.args.logs.limits in
     let stem = c.args.logs.stem.now in
     let name = c.args.name.now in
-    let front = front_text c.args.version c.args.declared.now in
+    let front = front_text c.args.front.version c.args.front.declared.now in
     let larger = c.args.larger.now in
     let old = g.F.Shelf.files c.args.files.now in
     let mid = g.F.Shelf.files c.begin_log.new.files in
@@ -39,7 +40,7 @@ returns-in_err-finish_log-in-None-clause-err g c =
     let limits = c.args.logs.limits in
     let stem = c.args.logs.stem.now in
     let name = c.args.name.now in
-    let front = front_text c.args.version c.args.declared.now in
+    let front = front_text c.args.front.version c.args.front.declared.now in
     let larger = c.args.larger.now in
     let old = g.F.Shelf.files c.args.files.now in
     let mid = g.F.Shelf.files c.begin_log.new.files in
@@ -60,7 +61,7 @@ returns-in-Some-clause-written g c =
     let limits = c.args.logs.limits in
     let stem = c.args.logs.stem.now in
     let name = c.args.name.now in
-    let front = front_text c.args.version c.args.declared.now in
+    let front = front_text c.args.front.version c.args.front.declared.now in
     let larger = c.args.larger.now in
     let old = g.F.Shelf.files c.args.files.now in
     let mid = g.F.Shelf.files c.begin_log.new.files in
@@ -79,7 +80,7 @@ returns-in_ok-finish_log-in-None-clause-written g c =
     let limits = c.args.logs.limits in
     let stem = c.args.logs.stem.now in
     let name = c.args.name.now in
-    let front = front_text c.args.version c.args.declared.now in
+    let front = front_text c.args.front.version c.args.front.declared.now in
     let larger = c.args.larger.now in
     let old = g.F.Shelf.files c.args.files.now in
     let mid = g.F.Shelf.files c.begin_log.new.files in
@@ -93,3 +94,40 @@ returns-in_ok-finish_log-in-None-clause-written g c =
     let new = g.F.Shelf.files c.finish_log.new.files in
     let none = subst (λ (found : Option BadPart). HasJoined limits (2 ^ c.args.logs.levels) stem c.args.logs.heads.now (items_over 0 (c.args.logs.levels - 0) 0) mid writer last later found) c.in-None.is c.in_ok-part.ensures.joined in
     all_written limits c.args.logs.levels stem c.args.logs.heads.now name front larger c.args.claim old mid last new writer later (c.in_ok-part.ensures.named ∙ named) some c.requires.apart stay begun none c.in_ok-finish_log-in-None.ensures.ok
+
+-- ---- what is left of the store
+
+pub returns-in_err-writer-clause-frame : goal.returns-in_err-writer-clause-frame
+returns-in_err-writer-clause-frame g c =
+    let begun = c.in_err-writer.ensures in
+    item-put g.F.Shelf c.args.name.now c.args.files.now c.begin_log.new.files begun.others begun.readable begun.writable begun.reads begun.writes
+
+pub returns-in_err-part-clause-frame : goal.returns-in_err-part-clause-frame
+returns-in_err-part-clause-frame g c =
+    let out = c.args.name.now in
+    let begun = c.in_ok-writer.ensures in
+    both-then g.F.Shelf out (name_of c.in_ok-writer.writer) c.args.files.now c.begin_log.new.files c.write_tree.new.files begun.named (item-put g.F.Shelf out c.args.files.now c.begin_log.new.files begun.others begun.readable begun.writable begun.reads begun.writes) c.in_err-part.ensures.frame
+
+pub returns-in-Some-clause-frame : goal.returns-in-Some-clause-frame
+returns-in-Some-clause-frame g c =
+    let out = c.args.name.now in
+    let begun = c.in_ok-writer.ensures in
+    both-then g.F.Shelf out (name_of c.in_ok-writer.writer) c.args.files.now c.begin_log.new.files c.write_tree.new.files begun.named (item-put g.F.Shelf out c.args.files.now c.begin_log.new.files begun.others begun.readable begun.writable begun.reads begun.writes) c.in_ok-part.ensures.frame
+
+pub returns-in_err-finish_log-in-None-clause-frame : goal.returns-in_err-finish_log-in-None-clause-frame
+returns-in_err-finish_log-in-None-clause-frame g c =
+    let out = c.args.name.now in
+    let begun = c.in_ok-writer.ensures in
+    let finished = c.in_err-finish_log-in-None.ensures in
+    both-then g.F.Shelf out (name_of c.write_tree.new.writer) c.args.files.now c.write_tree.new.files c.finish_log.new.files (c.in_ok-part.ensures.named ∙ begun.named)
+    (both-then g.F.Shelf out (name_of c.in_ok-writer.writer) c.args.files.now c.begin_log.new.files c.write_tree.new.files begun.named (item-put g.F.Shelf out c.args.files.now c.begin_log.new.files begun.others begun.readable begun.writable begun.reads begun.writes) c.in_ok-part.ensures.frame)
+    (item-put g.F.Shelf (name_of c.write_tree.new.writer) c.write_tree.new.files c.finish_log.new.files finished.others finished.readable finished.writable finished.reads finished.writes)
+
+pub returns-in_ok-finish_log-in-None-clause-frame : goal.returns-in_ok-finish_log-in-None-clause-frame
+returns-in_ok-finish_log-in-None-clause-frame g c =
+    let out = c.args.name.now in
+    let begun = c.in_ok-writer.ensures in
+    let finished = c.in_ok-finish_log-in-None.ensures in
+    both-then g.F.Shelf out (name_of c.write_tree.new.writer) c.args.files.now c.write_tree.new.files c.finish_log.new.files (c.in_ok-part.ensures.named ∙ begun.named)
+    (both-then g.F.Shelf out (name_of c.in_ok-writer.writer) c.args.files.now c.begin_log.new.files c.write_tree.new.files begun.named (item-put g.F.Shelf out c.args.files.now c.begin_log.new.files begun.others begun.readable begun.writable begun.reads begun.writes) c.in_ok-part.ensures.frame)
+    (item-put g.F.Shelf (name_of c.write_tree.new.writer) c.write_tree.new.files c.finish_log.new.files finished.others finished.readable finished.writable finished.reads finished.writes)

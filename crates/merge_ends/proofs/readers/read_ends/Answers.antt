@@ -7,7 +7,7 @@ use Rattle.stn_edge.specs.Files.{FileMap}
 use Rattle.proof_log.specs.LogNames.{log_name}
 use Rattle.log_nodes.specs.Reading.{EndsClean, IsReading}
 use Rattle.merged_nodes.specs.declared.sources.Source.{Source}
-use Rattle.merged_nodes.proofs.Frames.{reads-then}
+use Rattle.log_parts.proofs.Frames.{reads-then}
 use Rattle.merge_ends.proofs.SourcesBegun.{rest-more, same-here}
 use Rattle.merge_ends.proofs.readers.read_ends.Goals as goal
 

@@ -9,7 +9,7 @@ use Rattle.log_nodes.specs.laws.Seen.{seen}
 use Rattle.merged_nodes.specs.declared.looking.Looked.{Looked}
 use Rattle.merged_nodes.specs.declared.sources.Source.{Source}
 use Rattle.merged_nodes.specs.laws.Looked.{AreReading, HasLooked, HasLookedAt, IsSourceReading, MayRead}
-use Rattle.merged_nodes.proofs.Frames.{reads-none, reads-then}
+use Rattle.log_parts.proofs.Frames.{reads-none, reads-then}
 use Rattle.merged_nodes.proofs.Places.{same-behind, same-there}
 use Rattle.merged_nodes.proofs.Stands.{holds-there, looked-away, looked-from, looked-none, looked-same, looked-there}
 use Rattle.merged_nodes.proofs.looking.look.Goals.{then-source-depth+in_ok-look_at+else-not-branch, else-source-depth}

@@ -9,7 +9,7 @@ use Rattle.row_relax.specs.RowProofs.{RowItem}
 use Rattle.log_nodes.specs.Reading.{IsReading, ReadsOn}
 use Rattle.merged_nodes.specs.declared.sources.Source.{Source}
 use Rattle.merged_nodes.specs.laws.Looked.{AreReading, HasPassed, HavePassed, IsSourceReading, MayRead}
-use Rattle.merged_nodes.proofs.Frames.{reads-none, reads-then}
+use Rattle.log_parts.proofs.Frames.{reads-none, reads-then}
 use Rattle.merged_nodes.proofs.Places.{same-behind, same-there}
 use Rattle.merged_nodes.proofs.Stands.{holds-there}
 use Rattle.merged_nodes.proofs.Passed.{below-some, passed-below, passed-none, passed-there, reading-some, source-reading}

@@ -1,7 +1,7 @@
 -- The node, and then one cut after another.
 use Rattle.std.proofs.Common.{◌∙◌}
 use Rattle.log_parts.specs.laws.Copying.{name_of}
-use Rattle.merged_nodes.proofs.Frames.{writes-then}
+use Rattle.log_parts.proofs.Frames.{writes-then}
 use Rattle.merged_nodes.proofs.Puts.{cut-put, cuts-put}
 use Rattle.merged_nodes.proofs.putting.put_head.Goals as goal
 

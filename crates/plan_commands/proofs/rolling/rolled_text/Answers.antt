@@ -9,10 +9,10 @@ use Rattle.plan_commands.proofs.rolling.rolled_text.Goals as goal
 
 pub rest_text-requires-clause-few : goal.rest_text-requires-clause-few
 rest_text-requires-clause-few c =
-    subst (λ (rolled : Plant). length (moved c.args.plan.now c.args.period) ≤ most_lines rolled) (sym c.requires.made)
-    (moved-few c.args.plant.now c.args.before.now c.args.plan.now c.args.period c.requires.few)
+    subst (λ (rolled : Plant). length (moved c.args.parted.now.plan.now c.args.parted.now.period) ≤ most_lines rolled) (sym c.requires.made)
+    (moved-few c.args.parted.now.plant.now c.args.parted.now.before.now c.args.parted.now.plan.now c.args.parted.now.period c.requires.parted.few)
 
 pub rest_text-requires-clause-writable : goal.rest_text-requires-clause-writable
 rest_text-requires-clause-writable c =
-    subst (λ (rolled : Plant). All (IsWritable rolled) (moved c.args.plan.now c.args.period)) (sym c.requires.made)
-    (moved-writable c.args.plant.now c.args.before.now c.args.plan.now c.args.period c.requires.writable)
+    subst (λ (rolled : Plant). All (IsWritable rolled) (moved c.args.parted.now.plan.now c.args.parted.now.period)) (sym c.requires.made)
+    (moved-writable c.args.parted.now.plant.now c.args.parted.now.before.now c.args.parted.now.plan.now c.args.parted.now.period c.requires.parted.writable)

@@ -8,8 +8,8 @@ use Rattle.plant_check.proofs.check.check_headed.Goals as goal
 
 pub check_set_up-requires-clause-held : goal.check_set_up-requires-clause-held
 check_set_up-requires-clause-held g c =
-    let plant = c.args.plant.now in
+    let plant = c.args.part.plant.now in
     let head = c.args.head in
-    let limits = c.limits_with-limits.ensures ∙ ap (limits_with c.args.program c.args.depth) c.len.ensures in
-    held_of plant c.args.program c.args.depth head c.in-Whole.setups c.requires.kept
+    let limits = c.limits_with-limits.ensures ∙ ap (limits_with c.args.part.program c.args.part.depth) c.len.ensures in
+    held_of plant c.args.part.program c.args.part.depth head c.in-Whole.setups c.requires.kept
     (subst (λ (l : Limits). IsSetupsHeld l (setup_sizes plant) head c.in-Whole.setups) limits (subst (AreSetupsHeld c.limits_with-limits.result (setup_sizes plant) head) c.in-Whole.is c.in_ok-defect.ensures.held))

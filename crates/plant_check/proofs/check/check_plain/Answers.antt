@@ -3,4 +3,4 @@ use Rattle.valid_log.proofs.PartSaying.{part_yes_if}
 use Rattle.plant_check.proofs.check.check_plain.Goals as goal
 
 pub returns-clause-says : goal.returns-clause-says
-returns-clause-says g c = part_yes_if c.args.plant.now c.args.program c.check_rows.result c.requires.sound c.requires.part c.check_rows.ensures.holds
+returns-clause-says g c = part_yes_if c.args.part.plant.now c.args.part.program c.check_rows.result c.requires.sound c.requires.part c.check_rows.ensures.holds

@@ -15,9 +15,9 @@ returns-in-Ok-clause-parsed c =
 pub returns-in-Ok-clause-unmarked : goal.returns-in-Ok-clause-unmarked
 returns-in-Ok-clause-unmarked c = unmarked false (table_view c.in_ok-table.table) _ c.in-Ok.ensures.text
 
--- a document without dates is printed
+-- a document whose dates can be printed is printed
 pub unreachable-requires : goal.unreachable-requires
 unreachable-requires c =
-    let plain : members_have_valid_dates (table_view c.in_ok-table.table) ≡ true = rw c.in_ok-table.ensures (document_plain c.args.plant.now) in
+    let plain : members_have_valid_dates (table_view c.in_ok-table.table) ≡ true = rw c.in_ok-table.ensures (document_plain c.args.plant.now c.requires.calendar) in
     let invalid = c.in-Err-DateInvalid.ensures.dates.0 (rw c.in-Err-DateInvalid.field-0-is refl) in
     false≢true (sym invalid ∙ plain)

@@ -34,20 +34,20 @@ returns-in_err-referring c =
     rw (p.1, p.2) (stops_after e _ _ c.in_ok-named.ensures.passes (stops_after e _ _ c.in_ok-check_units.ensures.ok (stops_at e _ _ c.in_err-referring.ensures.err)))
 
 pub check_sizes-requires-clause-horizon : goal.check_sizes-requires-clause-horizon
-check_sizes-requires-clause-horizon c = rw (c.in_ok-referring.ensures.is, c.in_ok-named.ensures.is, c.bare_plant-plant.ensures.periods) c.requires
+check_sizes-requires-clause-horizon c = rw (c.in_ok-referring.ensures.is, c.in_ok-named.ensures.is, c.bare_plant-plant.ensures.periods) c.requires.horizon
 
 pub returns-in_err-check_sizes : goal.returns-in_err-check_sizes
 unfolding plant_with
 returns-in_err-check_sizes c =
     let p = err_from_is_err_and c.from_residual-in_err-check_sizes.result c.from_residual-in_err-check_sizes.ensures.1 in
     let e = c.in_err-check_sizes.field-0.0 in
-    let sizes = rw (c.in_ok-referring.ensures.is, c.in_ok-named.ensures.is, c.bare_plant-plant.ensures.large, c.bare_plant-plant.ensures.periods) at c.in_err-check_sizes.ensures.err in
+    let sizes = rw (c.in_ok-referring.ensures.is, c.in_ok-named.ensures.is, c.bare_plant-plant.ensures.large, c.bare_plant-plant.ensures.periods, c.bare_plant-plant.ensures.calendar, c.requires.calendar) at c.in_err-check_sizes.ensures.err in
     rw (p.1, p.2) (stops_after e _ _ c.in_ok-named.ensures.passes (stops_after e _ _ c.in_ok-check_units.ensures.ok (stops_after e _ _ c.in_ok-referring.ensures.passes sizes)))
 
 pub returns : goal.returns
 unfolding plant_with
 returns c =
-    let sizes = rw (c.in_ok-referring.ensures.is, c.in_ok-named.ensures.is, c.bare_plant-plant.ensures.large, c.bare_plant-plant.ensures.periods) at c.in_ok-check_sizes.ensures.ok in (
+    let sizes = rw (c.in_ok-referring.ensures.is, c.in_ok-named.ensures.is, c.bare_plant-plant.ensures.large, c.bare_plant-plant.ensures.periods, c.bare_plant-plant.ensures.calendar, c.requires.calendar) at c.in_ok-check_sizes.ensures.ok in (
       passes _ _ c.in_ok-named.ensures.passes (passes _ _ c.in_ok-check_units.ensures.ok (passes _ _ c.in_ok-referring.ensures.passes sizes)),
-      rw (c.in_ok-referring.ensures.is, c.in_ok-named.ensures.is, c.bare_plant-plant.ensures.large, c.bare_plant-plant.ensures.periods) refl,
+      rw (c.in_ok-referring.ensures.is, c.in_ok-named.ensures.is, c.bare_plant-plant.ensures.large, c.bare_plant-plant.ensures.periods, c.bare_plant-plant.ensures.calendar, c.requires.calendar) refl,
     )

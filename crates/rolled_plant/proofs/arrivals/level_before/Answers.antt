@@ -5,8 +5,8 @@ use mir.Syntax.{w128}
 use Rattle.rolled_plant.proofs.Levels.{level_later}
 use Rattle.rolled_plant.proofs.arrivals.level_before.Goals as goal
 
-pub returns-else-time-eq0-clause-value : goal.returns-else-time-eq0-clause-value
-returns-else-time-eq0-clause-value c =
+pub returns-else-carried-eq0-clause-value : goal.returns-else-carried-eq0-clause-value
+returns-else-carried-eq0-clause-value c =
     let fits : SFits w128 c.level_at.result = search rules in
     to_z-of_z w128 c.level_at.result fits ∙ c.level_at.ensures.value
-    ∙ level_later c.args.plant.now c.args.before.now c.args.stocks.now c.args.state c.args.time c.requires.table c.requires.there (omega arith) c.requires.within
+    ∙ level_later c.args.carried.now.plant.now c.args.carried.now.before.now c.args.carried.now.stocks.now c.args.state c.args.carried.now.period c.requires.carried.table c.requires.there (omega arith) (omega (arith, c.requires.carried.within))

@@ -5,6 +5,6 @@ use Rattle.rolled_plant.proofs.receipts.count_at.Given as goal
 
 abbrev pub invariant-loop-state : goal.invariant-loop-state
 invariant-loop-state l = record {
-  value : l.count ≡ length (listed_below (λ state. receipts_of state l.time (coming l.plant l.before l.period state l.time)) l.state);
+  value : l.count ≡ length (listed_below (λ state. receipts_of state l.time (coming l.carried.plant.now l.carried.before.now l.carried.period state l.time)) l.state);
   small : l.count ≤ l.state * 2 ^ 64;
 }

@@ -5,6 +5,6 @@ use Rattle.rolled_plant.proofs.receipts.receipt_count.Given as goal
 
 abbrev pub invariant-loop-time : goal.invariant-loop-time
 invariant-loop-time l = record {
-  value : l.count ≡ length (listed_below (receipts_at l.plant l.before l.period) l.time);
+  value : l.count ≡ length (listed_below (receipts_at l.carried.plant.now l.carried.before.now l.carried.period) l.time);
   small : l.count ≤ l.time * 2 ^ 72;
 }
