@@ -1,6 +1,6 @@
 -- How a proof has grown, from what was read of both.
-use Rattle.std.proofs.Common.{◌≡◌, ◌∙◌, ◌⊎◌, inl, inr, ℕ, ℤ, ◌+◌, List, [], ◌++◌, Option, None, Some, refl, sym, ap, subst, arith}
-use Rattle.std.specs.Prelude.{◌&&◌, if◌then◌else◌, IsTrue, IfSome, IsSomeAnd}
+use Rattle.std.proofs.Common.{◌≡◌, ◌∙◌, ◌⊎◌, inl, inr, ℕ, ℤ, ◌+◌, List, [], ◌++◌, Option, Some, refl, sym, ap, subst, arith}
+use Rattle.std.specs.Prelude.{◌&&◌, if◌then◌else◌, IsTrue, IsSomeAnd}
 use Rattle.dual_bound.specs.declared.cert.Cert.{Cert}
 use Rattle.proof_tree.specs.Cap.{floor_cap}
 use Rattle.proof_tree.specs.Items.{tree_items}
@@ -21,9 +21,10 @@ use Rattle.log_growth.specs.declared.counts.Growth.{Growth}
 use Rattle.log_nodes.specs.declared.pair.Share.{Share}
 use Rattle.log_growth.specs.Growth.{BeginsWithTree, GoesOn, IsGrowth, count_if, deep_ends, floors_above, open_ends}
 use Rattle.log_nodes.specs.OpenEnds.{in_share, is_open, leaves_open}
-use Rattle.log_growth.specs.laws.Grown.{HasGrown, HasGrownBelow, HasGrownParts}
+use Rattle.log_growth.specs.laws.Counts.{IsSplitCount, IsSum}
+use Rattle.log_growth.specs.laws.Grown.{HasGrown, HasGrownBelow, HasGrownNode, HasGrownParts}
 use Rattle.log_nodes.proofs.Skipped.{counted-tree}
-use Rattle.log_nodes.specs.laws.Nodes.{Below, HasBelow, HasTree, IsLeafEnd, below_items, counted_leaf, counted_with, leaf_of, node_items, tree_with}
+use Rattle.log_nodes.specs.laws.Nodes.{Below, HasBelow, IsLeafEnd, below_items, counted_leaf, leaf_of, node_items, tree_with}
 use Rattle.log_nodes.proofs.Readings.{tree-items}
 
 -- ---- ends that split nothing
@@ -127,14 +128,6 @@ new-end most rows profit share depth n w node other reads reads_out growth more 
 abbrev pub floor_above : Rows → Option ℤ → View → RowPick → Cert → ℕ
 floor_above rows profit w pick cert = if leaves_open profit (floor_cap ((row_steps rows.program).floor w pick cert)) then 1 else 0
 
--- the counts of a split are those of its parts, with its own floor where that is above the profit, and one box more of both proofs
-pub record IsSplitCount (above : ℕ) (parts whole : Growth) : Type 0 where
-  pub ends : whole.ends ≡ parts.ends
-  pub deep : whole.deep ≡ parts.deep
-  pub floors : whole.floors ≡ above + parts.floors
-  pub before : whole.before ≡ 1 + parts.before
-  pub after : whole.after ≡ 1 + parts.after
-
 split-grown : (most : ℕ) (rows : Rows) (profit : Option ℤ) (share : Option Share) (depth n : ℕ) (w : View) (cuts : List RowCut) (found : Option Found) (pick : RowPick) (cert : Cert) (reads reads_out : List RowItem → Type 0) (parts whole : Growth)
     → HasGrownParts most rows profit share depth n ((row_steps rows.program).trim w pick cert) pick reads reads_out parts → IsSplitCount (floor_above rows profit w pick cert) parts whole
     → HasGrownBelow most rows profit share depth n w (record { cuts = cuts; found = found; end = Split pick cert }) (record { cuts = cuts; found = found; end = Split pick cert }) reads reads_out whole
@@ -175,28 +168,6 @@ same-split most rows profit share depth n w node other pick cert reads reads_out
     (subst (λ (end : Ending). HasGrownBelow most rows profit share depth n w (record { cuts = node.cuts; found = node.found; end = end }) (record { cuts = node.cuts; found = node.found; end = end }) reads reads_out whole) (sym splits)
     (split-grown most rows profit share depth n w node.cuts node.found pick cert reads reads_out parts whole has counts))
 
--- so where the counts are numbers of 64 bits
-pub split-if : (most : ℕ) (rows : Rows) (profit : Option ℤ) (share : Option Share) (depth n : ℕ) (w rest : View) (node other : Node) (pick : RowPick) (cert : Cert) (above : ℕ) (reads reads_out : List RowItem → Type 0) (parts : Growth) (whole : Option Growth) → node.end ≡ Split pick cert → node ≡ other
-    → rest ≡ (row_steps rows.program).trim w pick cert → above ≡ floor_above rows profit w pick cert → HasGrownParts most rows profit share depth n rest pick reads reads_out parts
-    → IfSome whole (λ g. (g.ends ≡ parts.ends) × (g.deep ≡ parts.deep) × (g.floors ≡ above + parts.floors) × (g.before ≡ 1 + parts.before) × (g.after ≡ 1 + parts.after)) → IfSome whole (HasGrownBelow most rows profit share depth n w node other reads reads_out)
-split-if most rows profit share depth n w rest node other pick cert above reads reads_out parts None splits same trimmed floor has counts = tt
-split-if most rows profit share depth n w rest node other pick cert above reads reads_out parts (Some whole) splits same trimmed floor has counts =
-    same-split most rows profit share depth n w node other pick cert reads reads_out parts whole splits same (subst (λ (v : View). HasGrownParts most rows profit share depth n v pick reads reads_out parts) trimmed has) (record {
-      ends = counts.0;
-      deep = counts.1;
-      floors = counts.2 ∙ ap (λ (k : ℕ). k + parts.floors) floor;
-      before = counts.3;
-      after = counts.4;
-    })
-
--- the counts of two parts together
-pub record IsSum (first second both : Growth) : Type 0 where
-  pub ends : both.ends ≡ first.ends + second.ends
-  pub deep : both.deep ≡ first.deep + second.deep
-  pub floors : both.floors ≡ first.floors + second.floors
-  pub before : both.before ≡ first.before + second.before
-  pub after : both.after ≡ first.after + second.after
-
 -- both parts of a split
 pub both-parts : (most : ℕ) (rows : Rows) (profit : Option ℤ) (share : Option Share) (depth n next : ℕ) (view x y : View) (pick : RowPick) (one one_out two two_out reads reads_out : List RowItem → Type 0) (first second both : Growth)
     → (row_steps rows.program).left view pick ≡ Some x → (row_steps rows.program).right view pick ≡ Some y → HasGrown most rows profit share (depth + 1) n x one one_out first → HasGrown most rows profit share (depth + 1) next y two two_out second
@@ -231,32 +202,18 @@ both-parts most rows profit share depth n next view x y pick one one_out two two
       after = omega (arith, sums.after, a.is.after, b.is.after);
     }
 
--- so where the counts are numbers of 64 bits
-pub both-if : (most : ℕ) (rows : Rows) (profit : Option ℤ) (share : Option Share) (depth n next : ℕ) (view x y : View) (pick : RowPick) (one one_out two two_out reads reads_out : List RowItem → Type 0) (first second : Growth) (both : Option Growth)
-    → (row_steps rows.program).left view pick ≡ Some x → (row_steps rows.program).right view pick ≡ Some y → HasGrown most rows profit share (depth + 1) n x one one_out first → HasGrown most rows profit share (depth + 1) next y two two_out second
-    → next ≡ n + first.ends → ((a b : List RowItem) → one a → two b → reads (a ++ b)) → ((a b : List RowItem) → one_out a → two_out b → reads_out (a ++ b))
-    → IfSome both (λ g. (g.ends ≡ first.ends + second.ends) × (g.deep ≡ first.deep + second.deep) × (g.floors ≡ first.floors + second.floors) × (g.before ≡ first.before + second.before) × (g.after ≡ first.after + second.after))
-    → IfSome both (HasGrownParts most rows profit share depth n view pick reads reads_out)
-both-if most rows profit share depth n next view x y pick one one_out two two_out reads reads_out first second None left right a b number behind behind_out sums = tt
-both-if most rows profit share depth n next view x y pick one one_out two two_out reads reads_out first second (Some both) left right a b number behind behind_out sums =
-    both-parts most rows profit share depth n next view x y pick one one_out two two_out reads reads_out first second both left right a b number behind behind_out (record {
-      ends = sums.0;
-      deep = sums.1;
-      floors = sums.2;
-      before = sums.3;
-      after = sums.4;
-    })
-
 -- ---- a whole node
 
--- the cuts of a node were made, and what stands below it was read
-pub node-grown : (most : ℕ) (rows : Rows) (profit : Option ℤ) (share : Option Share) (depth n : ℕ) (v w : View) (node other : Node) (reads reads_out all all_out : List RowItem → Type 0) (growth : Growth) → after_cuts (row_steps rows.program) v node.cuts ≡ Some w
-    → ((items : List RowItem) → reads items → all (node_items node ++ items)) → ((items : List RowItem) → reads_out items → all_out (node_items other ++ items)) → HasGrownBelow most rows profit share depth n w node other reads reads_out growth
-    → HasGrown most rows profit share depth n v all all_out growth
-node-grown most rows profit share depth n v w node other reads reads_out all all_out growth there behind behind_out has = record {
-  tree = tree_with node.cuts node.found node.end has.below;
-  grown = tree_with other.cuts other.found other.end has.below_out;
-  read = subst all (tree-items node.cuts node.found node.end has.below) (behind (below_items node.end has.below) has.read);
-  read_out = subst all_out (tree-items other.cuts other.found other.end has.below_out) (behind_out (below_items other.end has.below_out) has.read_out);
-  is = has.is v there;
-}
+-- a node was read, and what stands below it
+pub node-grown : (most : ℕ) (rows : Rows) (profit : Option ℤ) (share : Option Share) (depth n : ℕ) (v : View) (node other : Node) (reads reads_out all all_out : List RowItem → Type 0) (growth : Growth) → ((items : List RowItem) → reads items → all (node_items node ++ items))
+    → ((items : List RowItem) → reads_out items → all_out (node_items other ++ items)) → HasGrownNode most rows profit share depth n v node other reads reads_out growth → HasGrown most rows profit share depth n v all all_out growth
+node-grown most rows profit share depth n v node other reads reads_out all all_out growth behind behind_out has =
+    let below = has.below.below in
+    let below_out = has.below.below_out in
+    record {
+      tree = tree_with node.cuts node.found node.end below;
+      grown = tree_with other.cuts other.found other.end below_out;
+      read = subst all (tree-items node.cuts node.found node.end below) (behind (below_items node.end below) has.below.read);
+      read_out = subst all_out (tree-items other.cuts other.found other.end below_out) (behind_out (below_items other.end below_out) has.below.read_out);
+      is = has.below.is v has.there;
+    }

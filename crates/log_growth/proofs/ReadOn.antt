@@ -1,18 +1,15 @@
 -- Two logs that are read on, side by side.
-use Rattle.std.proofs.Common.{◌≡◌, ◌≤◌, ℕ, List, map, Option, None, Some, sym, subst}
+use Rattle.std.proofs.Common.{◌≡◌, ◌≤◌, ℕ, List, Option, Some, sym, subst}
 use Rattle.std.specs.Prelude.{Bool, IsTrue, IfSome}
 use Rattle.stn_edge.specs.Files.{FileMap}
 use Rattle.stn_edge.specs.declared.shelf.Shelf.{Ghosts}
-use Rattle.row_kit.specs.declared.domain.Domain.{Domain}
 use Rattle.row_relax.specs.declared.rows.Rows.{Rows}
-use Rattle.row_relax.specs.RowProofs.{RowItem}
-use Rattle.row_relax.specs.View.{Fits, view_of}
+use Rattle.row_relax.specs.View.{Fits}
 use Rattle.proof_tree.specs.Views.{View}
 use Rattle.store_frames.specs.Frames.{OnlyReads}
-use Rattle.log_nodes.specs.Reading.{IsReading, ReadsOn}
-use Rattle.log_growth.specs.declared.counts.Growth.{Growth}
-use Rattle.log_growth.specs.declared.growing.Readers.{Readers}
-use Rattle.log_growth.specs.laws.Grown.{CanGrow, HaveReadOn}
+use Rattle.log_nodes.specs.Reading.{IsReading}
+use Rattle.log_growth.specs.declared.way.Readers.{Readers}
+use Rattle.log_growth.specs.laws.Grown.{CanGrow}
 
 -- what is so of that which there is
 pub at-some : {X : Type 0} (P : X → Type 0) {o : Option X} {x : X} → o ≡ Some x → IfSome o P → P x
@@ -32,10 +29,3 @@ can-still {F} {S} {files} {later} {log} {out} {before} {after} can frame log_rea
   out_reading = subst (λ (told : Option FileMap). IsReading told out after.out) (sym frame.same) out_reading;
   fits = fits;
 }
-
--- of counts that are there, what was read is so
-pub have-if : (IsSo : (List RowItem → Type 0) → (List RowItem → Type 0) → Growth → Type 0) {told : Option FileMap} {log out : List ℕ} (before after : Readers) (area later : List (List Domain)) (growth : Option Growth)
-    → IfSome growth (IsSo (λ items. ReadsOn told log before.log items after.log) (λ items. ReadsOn told out before.out items after.out)) → IsReading told log after.log → IsReading told out after.out → map view_of later ≡ map view_of area
-    → IfSome growth (HaveReadOn IsSo told log out before after area later)
-have-if IsSo before after area later None is_so log_reading out_reading as_before = tt
-have-if IsSo before after area later (Some growth) is_so log_reading out_reading as_before = record { is_so = is_so; log_reading = log_reading; out_reading = out_reading; as_before = as_before }

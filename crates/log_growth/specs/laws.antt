@@ -1,2 +1,4 @@
 -- What only clauses of private functions cite: the language wants the definitions of every clause in specs/.
+pub mod Counts
 pub mod Grown
+pub mod Opened

@@ -4,8 +4,11 @@
 //! `growth` reads both logs side by side, node by node. `specs/Growth` says what it means that a proof goes on from another.
 #![tactic(auto)]
 
+mod counting;
 mod counts;
 mod growing;
+mod nodes;
+mod way;
 mod whole;
 
 pub use counts::Growth;

@@ -5,7 +5,8 @@ ghost use Rattle.stn_edge.specs.Files.{file_of};
 ghost use Rattle.log_growth.specs.Logs.{AreGrown};
 
 use crate::counts::Growth;
-use crate::growing::{Place, Readers, grown};
+use crate::growing::grown;
+use crate::way::{Place, Readers};
 use log_nodes::{Front, Pair, read_end};
 use proof_log::LogReader;
 use std::alloc::Global;

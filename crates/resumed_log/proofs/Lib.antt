@@ -1,2 +1,4 @@
+pub mod OpenSplits
 pub mod Puts
 pub mod Readers
+pub mod Remaining

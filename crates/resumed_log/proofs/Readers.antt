@@ -1,7 +1,8 @@
 -- A log that is read while another is written.
 use Rattle.std.proofs.Common.{◌≡◌, ◌≢◌, ◌∙◌, ℕ, Bool, List, Option, None, sym, subst}
-use Rattle.std.specs.Prelude.{IsTrue, OnOk, Result, Ok, Err}
+use Rattle.std.specs.Prelude.{IsTrue}
 use Rattle.stn_edge.specs.Files.{FileMap, OthersStay}
+use Rattle.stn_edge.specs.declared.shelf.Shelf.{Ghosts}
 use Rattle.proof_log.specs.declared.log_reader.LogReader.{LogReader}
 use Rattle.proof_log.specs.Writer.{KeepsOthers, Writing}
 use Rattle.row_relax.specs.declared.rows.Rows.{Rows}
@@ -9,13 +10,9 @@ use Rattle.branch_tree.specs.declared.going_on.GoingOn.{GoingOn}
 use Rattle.branch_tree.specs.laws.Going.{CanGoOn}
 use Rattle.log_nodes.specs.Reading.{IsReading}
 use Rattle.log_nodes.proofs.Frames.{others-then}
+use Rattle.store_frames.specs.Frames.{WritesOne}
 use Rattle.log_parts.proofs.Copies.{read_stays, same_file}
 use Rattle.resumed_log.specs.laws.Walks.{CanWriteBeside, GoesOnWalking}
-
--- what follows from two facts of a call that did what it was to do
-pub on_ok_both : {T E P Q R : Type 0} (r : Result T E) → (P → Q → R) → OnOk r P → OnOk r Q → OnOk r R
-on_ok_both (Ok x) to p q = to p q
-on_ok_both (Err e) to p q = tt
 
 -- a reader reads a file on where another one changes
 pub reading-stays : (name out : List ℕ) (r : LogReader) (old new : Option FileMap) → OthersStay out old new → out ≢ name → IsReading old name r → IsReading new name r
@@ -35,6 +32,11 @@ still-beside {reads} {writes} {reads2} {writes2} {log} {out} {out2} readable wri
   may_write = subst (λ (may : List ℕ → Bool). IsTrue (may out2)) (sym writable) (subst (λ (name : List ℕ). IsTrue (writes name)) (sym named) may.may_write);
   apart = λ is. may.apart (sym named ∙ is);
 }
+
+-- the file that is written may still be written
+pub may-write-on : {F : Type 0} {S : Ghosts F} {name later : List ℕ} {a b : F} → WritesOne S name a b → later ≡ name → IsTrue (S.may_write a name) → IsTrue (S.may_write b later)
+may-write-on {F} {S} {name} {later} {a} frame named allowed =
+    subst (λ (may : List ℕ → Bool). IsTrue (may later)) (sym frame.writable) (subst (λ (own : List ℕ). IsTrue (S.may_write a own)) (sym named) allowed)
 
 -- other files stay as a writer's changes follow one another
 pub keeps-then : (a b c : Writing) → KeepsOthers a b → KeepsOthers b c → KeepsOthers a c

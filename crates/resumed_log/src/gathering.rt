@@ -1,21 +1,21 @@
 //! The open ends of a log, and its best plan.
-ghost use Rattle.std.specs.Prelude.{◌<◌, ◌≡◌, ◌≢◌, ℕ, map, Err, IsTrue, OnOk};
+ghost use Rattle.std.specs.Prelude.{◌≡◌, ◌≢◌, ℕ, map, Err, IsTrue, IfOk, OnOk};
 ghost use Rattle.stn_edge.specs.Count.{Rose};
 ghost use Rattle.row_relax.specs.declared.rows.Rows.{Rows};
 ghost use Rattle.row_relax.specs.View.{Fits, view_of};
 ghost use Rattle.branch_tree.specs.laws.Going.{CanGoOn};
 ghost use Rattle.store_frames.specs.Frames.{OnlyReads};
-ghost use Rattle.log_nodes.specs.laws.Seen.{StandsBelow, seen};
-ghost use Rattle.resumed_log.specs.laws.Walks.{CanWalk, GoesOnWalking};
+ghost use Rattle.log_nodes.specs.laws.Seen.{seen};
+ghost use Rattle.resumed_log.specs.laws.Walks.{CanWalk, GoesOnWalking, HasPassed};
 
 use crate::claiming::point_of;
 use crate::leaves::{cap_of, may_search};
-use crate::walk::Walk;
+use crate::walk::{OpenSplit, Walk, open_split, turn};
 use branch_tree::GoingOn;
 use end_advice::OpenEnd;
 use log_nodes::{Ending, Front, Node, Pair, WalkStop, enter_node, is_open, reader_at};
 use proof_log::{Claim, LogPart, LogReader};
-use proof_tree::{Capped, Relaxation};
+use proof_tree::{Capped, Relaxation, Stack};
 use row_kit::{Area, Found};
 use std::alloc::{AllocError, Global};
 use stn_edge::Shelf;
@@ -161,8 +161,7 @@ fn gather_claim<F: Shelf>(
     }
 }
 
-// Reads a proof over an area, which is afterwards as before.
-#[cycle(gather)]
+// Reads a proof over an area, which is afterwards as before. It is a loop, and holds the splits whose right parts are left to read.
 fn gather_node<F: Shelf>(
     walk: Walk,
     files: &mut F,
@@ -181,54 +180,70 @@ fn gather_node<F: Shelf>(
     ensures no_fault { result ≢ Err WalkStop.WriteFault }
 {
     let mark = walk.pair.rows.mark(area);
-    let node = enter_node(walk.alloc, walk.pair, files, reader, area)?;
-    gather_below(walk, files, reader, gathered, area, &node)?;
-    walk.pair.rows.back(area, mark);
-    Ok(())
+    let mut splits = Stack::new(walk.alloc);
+    let mut depth = walk.depth;
+    'nodes: loop {
+        let here = Walk { depth, ..walk };
+        match gather_here(here, files, reader, gathered, area)? {
+            Some(split) => {
+                splits.push(split)?;
+                depth = split.below;
+            }
+            None => {
+                let Some(split) = splits.take_top() else {
+                    walk.pair.rows.back(area, mark);
+                    return Ok(());
+                };
+                turn(walk.pair.rows, area, &split)?;
+                depth = split.below;
+            }
+        }
+    }
 }
 
-// Keeps what a node tells, over an area after its cuts, and reads what stands below it: both parts of a split, where the second is
-// taken.
-#[cycle(gather)]
-fn gather_below<F: Shelf>(
+// Reads the next node over an area, and keeps what it tells; where it splits, the area is afterwards its left part.
+fn gather_here<F: Shelf>(
     walk: Walk,
     files: &mut F,
     reader: &mut LogReader,
     gathered: &mut Gathered,
     area: &mut Area,
-    node: &Node,
-) -> Result<(), WalkStop>
+) -> Result<Option<OpenSplit>, WalkStop>
     requires can { CanWalk F.Shelf files.old walk.pair reader.old gathered.old.going
         (seen area.old) }
     ensures walking { OnOk result (GoesOnWalking (F.files files.new) walk.entry.pair.log.now
         reader.new walk.entry.pair.most walk.entry.pair.rows.now gathered.new.going) }
-    ensures below { OnOk result (StandsBelow walk.entry.pair.rows.now.program
+    ensures passed { IfOk result (HasPassed walk.entry.pair walk.entry.depth
         (map view_of area.old) (map view_of area.new)) }
     ensures frame { OnlyReads F.Shelf files.old files.new }
     ensures read_fault { result ≡ Err WalkStop.ReadFault
         → Rose (F.read_faults files.old) (F.read_faults files.new) }
     ensures no_fault { result ≢ Err WalkStop.WriteFault }
 {
+    let node = enter_node(walk.alloc, walk.pair, files, reader, area)?;
+    gather_below(walk, gathered, area, &node)
+}
+
+// Keeps what a node tells, over an area after its cuts; where it splits, the area is afterwards its left part.
+fn gather_below(
+    walk: Walk,
+    gathered: &mut Gathered,
+    area: &mut Area,
+    node: &Node,
+) -> Result<Option<OpenSplit>, WalkStop>
+    requires can { CanGoOn walk.pair.most walk.pair.rows.now gathered.old.going }
+    requires fits { Fits walk.pair.rows.now.program (seen area.old) }
+    ensures can { OnOk result
+        (CanGoOn walk.entry.pair.most walk.entry.pair.rows.now gathered.new.going) }
+    ensures passed { IfOk result (HasPassed walk.entry.pair walk.entry.depth
+        (map view_of area.old) (map view_of area.new)) }
+    ensures no_fault { (result ≢ Err WalkStop.ReadFault) × (result ≢ Err WalkStop.WriteFault) }
+{
     gathered.note_found(&node.found)?;
     let Ending::Split(pick, cert) = &node.end else {
-        return Ok(gathered.note(walk.alloc, &walk.pair, area, walk.depth, &node.end)?);
-    };
-    if walk.depth >= walk.pair.most {
-        return Err(WalkStop::Other);
-    }
-    let deeper = Walk {
-        depth: walk.depth + 1,
-        ..walk
+        gathered.note(walk.alloc, &walk.pair, area, walk.depth, &node.end)?;
+        return Ok(None);
     };
     let _ = walk.pair.rows.trim(area, pick, cert);
-    let mark = walk.pair.rows.mark(area);
-    if !walk.pair.rows.left(area, pick) {
-        return Err(WalkStop::Other);
-    }
-    gather_node(deeper, files, reader, gathered, area)?;
-    walk.pair.rows.back(area, mark);
-    if !walk.pair.rows.right(area, pick) {
-        return Err(WalkStop::Other);
-    }
-    gather_node(deeper, files, reader, gathered, area)
+    Ok(Some(open_split(walk, area, pick)?))
 }

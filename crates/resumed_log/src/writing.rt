@@ -1,5 +1,5 @@
 //! The items of the old log and of what is searched on, written to the new one.
-ghost use Rattle.std.specs.Prelude.{◌≡◌, ◌<◌, ℕ, map, IsTrue, OnOk, false};
+ghost use Rattle.std.specs.Prelude.{◌≡◌, ℕ, map, IsTrue, IfOk, OnOk, false};
 ghost use Rattle.row_relax.specs.declared.rows.Rows.{Rows};
 ghost use Rattle.row_relax.specs.View.{Fits, view_of};
 ghost use Rattle.branch_tree.specs.Deep.{is_deep};
@@ -8,23 +8,23 @@ ghost use Rattle.store_frames.specs.Frames.{ReadsAndWritesOne, WritesOne};
 ghost use Rattle.log_nodes.specs.laws.Seen.{seen};
 ghost use Rattle.resumed_log.specs.laws.Beside.{out_name};
 ghost use Rattle.resumed_log.specs.laws.Stops.{Stops, StopsWriting};
-ghost use Rattle.resumed_log.specs.laws.Walks.{CanRewrite, GoesOnWalking, HasWalked};
+ghost use Rattle.resumed_log.specs.laws.Walks.{CanRewrite, GoesOnWalking, HasPassed};
 
 use crate::claiming::exceeds;
 use crate::course::Course;
 use crate::leaves::{cap_of, may_search};
 use crate::new_log::Out;
-use crate::walk::Walk;
+use crate::walk::{OpenSplit, Walk, open_split, turn};
 use box_advice::Hinter;
 use branch_tree::GoingOn;
 use dual_bound::Cert;
 use end_advice::EndGuide;
 use log_nodes::{Ending, Node, Pair, WalkStop, enter_node, is_open, item_of};
 use proof_log::LogReader;
-use proof_tree::{Item, NodeTaker, Relaxation, floor_cap, greater_cap};
+use proof_tree::{Item, NodeTaker, Relaxation, Stack, floor_cap, greater_cap};
 use range_prop::RowCut;
 use row_kit::{Area, Found};
-use row_relax::{RowPick, Rows};
+use row_relax::Rows;
 use stn_edge::Shelf;
 
 /// Puts an item.
@@ -65,8 +65,7 @@ fn put_found<F: Shelf>(out: &mut Out, files: &mut F, found: Option<Found>) -> Re
 }
 
 /// Reads the proof of an old log over an area, and writes it to the new one, where the open ends that the guide enters are searched
-/// on. The area is afterwards as before.
-#[cycle(writing)]
+/// on. The area is afterwards as before. It is a loop, and holds the splits whose right parts are left to write.
 pub fn write_node<H: Hinter + Drop, G: EndGuide + Drop, F: Shelf>(
     walk: Walk,
     files: &mut F,
@@ -84,39 +83,79 @@ pub fn write_node<H: Hinter + Drop, G: EndGuide + Drop, F: Shelf>(
     ensures stops { Stops F.Shelf result files.old files.new }
 {
     let mark = walk.pair.rows.mark(area);
-    let mut node = enter_node(walk.alloc, walk.pair, files, reader, area)?;
-    write_below(walk, files, reader, course, area, &mut node)?;
-    walk.pair.rows.back(area, mark);
-    Ok(())
+    let mut splits = Stack::new(walk.alloc);
+    let mut depth = walk.depth;
+    'nodes: loop {
+        let here = Walk { depth, ..walk };
+        match write_here(here, files, reader, course, area)? {
+            Some(split) => {
+                splits.push(split)?;
+                depth = split.below;
+            }
+            None => {
+                let Some(split) = splits.take_top() else {
+                    walk.pair.rows.back(area, mark);
+                    return Ok(());
+                };
+                turn(walk.pair.rows, area, &split)?;
+                depth = split.below;
+            }
+        }
+    }
 }
 
-// Writes a node, over an area after its cuts, and what stands below it.
-#[cycle(writing)]
-fn write_below<H: Hinter + Drop, G: EndGuide + Drop, F: Shelf>(
+// Reads the next node of the old log over an area, and writes it to the new one, or the proof of its box where it is an open end that is
+// searched on. Where it is a split, the area is afterwards its left part.
+fn write_here<H: Hinter + Drop, G: EndGuide + Drop, F: Shelf>(
     walk: Walk,
     files: &mut F,
     reader: &mut LogReader,
     course: &mut Course<H, G>,
     area: &mut Area,
-    node: &mut Node,
-) -> Result<(), WalkStop>
+) -> Result<Option<OpenSplit>, WalkStop>
     requires can { CanRewrite F.Shelf files.old walk.pair reader.old course.old.going
         course.old.out (seen area.old) }
-    ensures walked { OnOk result (HasWalked (F.files files.new) walk.entry.pair reader.new
-        course.new.going (map view_of area.old) (map view_of area.new)) }
+    ensures walking { OnOk result (GoesOnWalking (F.files files.new) walk.entry.pair.log.now
+        reader.new walk.entry.pair.most walk.entry.pair.rows.now course.new.going) }
+    ensures passed { IfOk result (HasPassed walk.entry.pair walk.entry.depth
+        (map view_of area.old) (map view_of area.new)) }
     ensures named { out_name course.new.out ≡ out_name course.old.out }
     ensures frame { ReadsAndWritesOne F.Shelf (out_name course.old.out) files.old files.new }
     ensures stops { Stops F.Shelf result files.old files.new }
 {
+    let mut node = enter_node(walk.alloc, walk.pair, files, reader, area)?;
+    write_below(walk, files, course, area, &mut node)
+}
+
+// Writes a node, over an area after its cuts, or the proof of its box; where it splits, the area is afterwards its left part.
+fn write_below<H: Hinter + Drop, G: EndGuide + Drop, F: Shelf>(
+    walk: Walk,
+    files: &mut F,
+    course: &mut Course<H, G>,
+    area: &mut Area,
+    node: &mut Node,
+) -> Result<Option<OpenSplit>, WalkStop>
+    requires may_write { IsTrue (F.may_write files.old (out_name course.old.out)) }
+    requires can { CanGoOn walk.pair.most walk.pair.rows.now course.old.going }
+    requires fits { Fits walk.pair.rows.now.program (seen area.old) }
+    ensures can { OnOk result
+        (CanGoOn walk.entry.pair.most walk.entry.pair.rows.now course.new.going) }
+    ensures passed { IfOk result (HasPassed walk.entry.pair walk.entry.depth
+        (map view_of area.old) (map view_of area.new)) }
+    ensures named { out_name course.new.out ≡ out_name course.old.out }
+    ensures frame { WritesOne F.Shelf (out_name course.old.out) files.old files.new }
+    ensures stops { StopsWriting F.Shelf result files.old files.new }
+{
     put_head(&mut course.out, files, node.cuts.as_slice())?;
     if is_searched(walk.pair, course, area, walk.depth, &node.end) {
         let end = end_of(node);
-        return search_end(walk.pair, files, course, area, walk.depth, end);
+        search_end(walk.pair, files, course, area, walk.depth, end)?;
+        return Ok(None);
     }
     course.cap = greater_cap(course.cap, cap_of(walk.pair.rows, area, &node.end));
     put_found(&mut course.out, files, node.found.take())?;
     let end = item_of(end_of(node));
-    write_end(walk, files, reader, course, area, &end)
+    write_end(walk, files, course, area, &end)
 }
 
 // The end of a node, which is left without one.
@@ -124,36 +163,37 @@ fn end_of(node: &mut Node) -> Ending {
     std::mem::replace(&mut node.end, Ending::Empty)
 }
 
-// Writes an end, over its area, and what stands below it.
-#[cycle(writing)]
+// Writes an end, over its area; where it is a split, the area is afterwards its left part.
 fn write_end<H: Hinter + Drop, G: EndGuide + Drop, F: Shelf>(
     walk: Walk,
     files: &mut F,
-    reader: &mut LogReader,
     course: &mut Course<H, G>,
     area: &mut Area,
     end: &Item<Rows>,
-) -> Result<(), WalkStop>
-    requires can { CanRewrite F.Shelf files.old walk.pair reader.old course.old.going
-        course.old.out (seen area.old) }
-    ensures walked { OnOk result (HasWalked (F.files files.new) walk.entry.pair reader.new
-        course.new.going (map view_of area.old) (map view_of area.new)) }
+) -> Result<Option<OpenSplit>, WalkStop>
+    requires may_write { IsTrue (F.may_write files.old (out_name course.old.out)) }
+    requires can { CanGoOn walk.pair.most walk.pair.rows.now course.old.going }
+    requires fits { Fits walk.pair.rows.now.program (seen area.old) }
+    ensures can { OnOk result
+        (CanGoOn walk.entry.pair.most walk.entry.pair.rows.now course.new.going) }
+    ensures passed { IfOk result (HasPassed walk.entry.pair walk.entry.depth
+        (map view_of area.old) (map view_of area.new)) }
     ensures named { out_name course.new.out ≡ out_name course.old.out }
-    ensures frame { ReadsAndWritesOne F.Shelf (out_name course.old.out) files.old files.new }
-    ensures stops { Stops F.Shelf result files.old files.new }
+    ensures frame { WritesOne F.Shelf (out_name course.old.out) files.old files.new }
+    ensures stops { StopsWriting F.Shelf result files.old files.new }
 {
     put(&mut course.out, files, end)?;
     match end {
         Item::Split(pick, cert) => {
-            if walk.depth >= walk.pair.most {
-                return Err(WalkStop::Other);
-            }
             let floor = floor_cap(walk.pair.rows.trim(area, pick, cert));
             course.cap = greater_cap(course.cap, floor);
-            write_parts(walk, files, reader, course, area, pick)
+            Ok(Some(open_split(walk, area, pick)?))
         }
-        Item::Point => Ok(course.going.settle(area)?),
-        _ => Ok(()),
+        Item::Point => {
+            course.going.settle(area)?;
+            Ok(None)
+        }
+        _ => Ok(None),
     }
 }
 
@@ -249,39 +289,4 @@ fn search_end<H: Hinter + Drop, G: EndGuide + Drop, F: Shelf>(
     )?;
     course.cap = greater_cap(course.cap, cap);
     Ok(())
-}
-
-// Writes both parts of a split of an area, where the second is taken.
-#[cycle(writing)]
-fn write_parts<H: Hinter + Drop, G: EndGuide + Drop, F: Shelf>(
-    walk: Walk,
-    files: &mut F,
-    reader: &mut LogReader,
-    course: &mut Course<H, G>,
-    area: &mut Area,
-    pick: &RowPick,
-) -> Result<(), WalkStop>
-    requires can { CanRewrite F.Shelf files.old walk.pair reader.old course.old.going
-        course.old.out (seen area.old) }
-    requires depth { walk.depth < walk.pair.most }
-    ensures walked { OnOk result (HasWalked (F.files files.new) walk.entry.pair reader.new
-        course.new.going (map view_of area.old) (map view_of area.new)) }
-    ensures named { out_name course.new.out ≡ out_name course.old.out }
-    ensures frame { ReadsAndWritesOne F.Shelf (out_name course.old.out) files.old files.new }
-    ensures stops { Stops F.Shelf result files.old files.new }
-{
-    let deeper = Walk {
-        depth: walk.depth + 1,
-        ..walk
-    };
-    let mark = walk.pair.rows.mark(area);
-    if !walk.pair.rows.left(area, pick) {
-        return Err(WalkStop::Other);
-    }
-    write_node(deeper, files, reader, course, area)?;
-    walk.pair.rows.back(area, mark);
-    if !walk.pair.rows.right(area, pick) {
-        return Err(WalkStop::Other);
-    }
-    write_node(deeper, files, reader, course, area)
 }

@@ -14,7 +14,7 @@ use Rattle.row_relax.specs.View.{Fits, view_of}
 use Rattle.row_kit.specs.declared.domain.Domain.{Domain}
 use Rattle.branch_tree.specs.Deep.{is_deep}
 use Rattle.log_growth.specs.declared.counts.Growth.{Growth}
-use Rattle.log_growth.specs.declared.growing.Readers.{Readers}
+use Rattle.log_growth.specs.declared.way.Readers.{Readers}
 use Rattle.log_nodes.specs.declared.pair.Share.{Share}
 use Rattle.log_nodes.specs.declared.node.Node.{Node}
 use Rattle.log_growth.specs.Growth.{GoesOn, IsGrowth, count_if, deep_ends, floors_above, open_ends}
@@ -38,6 +38,12 @@ pub record HasGrownBelow (most : ℕ) (rows : Rows) (profit : Option ℤ) (share
   pub read_out : reads_out (below_items other.end below_out)
   pub is : (v : View) → after_cuts (row_steps rows.program) v node.cuts ≡ Some view
       → IsGrowth most rows profit share depth n v (tree_with node.cuts node.found node.end below) (tree_with other.cuts other.found other.end below_out) growth
+
+-- so of the nodes themselves, over a view before the cuts of the first
+pub record HasGrownNode (most : ℕ) (rows : Rows) (profit : Option ℤ) (share : Option Share) (depth n : ℕ) (view : View) (node other : Node) (reads reads_out : List RowItem → Type 0) (growth : Growth) : Type 0 where
+  pub cut : View
+  pub there : after_cuts (row_steps rows.program) view node.cuts ≡ Some cut
+  pub below : HasGrownBelow most rows profit share depth n cut node other reads reads_out growth
 
 -- both parts of a split of a view were read in both logs, and those of the second go on from those of the first
 pub record HasGrownParts (most : ℕ) (rows : Rows) (profit : Option ℤ) (share : Option Share) (depth n : ℕ) (view : View) (pick : RowPick) (reads reads_out : List RowItem → Type 0) (growth : Growth) : Type 0 where

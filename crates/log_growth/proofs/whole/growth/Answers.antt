@@ -3,7 +3,7 @@ use Rattle.std.proofs.Common.{◌∙◌, List, [], Option, rules, sym, subst}
 use Rattle.stn_edge.specs.Files.{FileMap}
 use Rattle.row_kit.specs.declared.domain.Domain.{Domain}
 use Rattle.log_nodes.specs.Reading.{EndsClean, IsReading, ReadsOn}
-use Rattle.log_growth.specs.declared.growing.Readers.{Readers}
+use Rattle.log_growth.specs.declared.way.Readers.{Readers}
 use Rattle.log_growth.specs.laws.Grown.{CanGrow, HasGrown}
 use Rattle.log_nodes.specs.laws.Seen.{seen}
 use Rattle.log_growth.proofs.Ended.{are-grown}

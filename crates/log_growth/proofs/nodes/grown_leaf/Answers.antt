@@ -9,7 +9,7 @@ use Rattle.log_nodes.specs.laws.Nodes.{HasBelow, leaf_of}
 use Rattle.log_nodes.proofs.Readings.{reads-none}
 use Rattle.log_growth.proofs.Grows.{IsEndCount, new-end, same-end}
 use Rattle.log_growth.proofs.ReadOn.{at-some}
-use Rattle.log_growth.proofs.growing.grown_leaf.Goals as goal
+use Rattle.log_growth.proofs.nodes.grown_leaf.Goals as goal
 
 pub returns-then-is_same_node-clause-grown : goal.returns-then-is_same_node-clause-grown
 returns-then-is_same_node-clause-grown g c =
