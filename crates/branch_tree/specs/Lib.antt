@@ -1,5 +1,6 @@
 pub mod Deep
 pub mod Justified
+pub mod SearchRequest
 pub mod Searched
 pub mod Splits
 pub mod laws

@@ -16,6 +16,7 @@ ghost use Rattle.branch_tree.specs.laws.Grounds.{StandsIn, GoesOn, LeavesOff, Is
 ghost use Rattle.branch_tree.specs.laws.Handed.{LookHanded, TailHanded, SplitHanded, PartsHanded, BoxHanded};
 ghost use Rattle.branch_tree.specs.laws.Stops.{LookStopped, TailStopped, PartsStopped, BoxStopped};
 
+use crate::advisers::SearchAdvisers;
 use crate::copies::copied_cert;
 use crate::found::{found_at, is_chosen};
 use crate::judging::judge;
@@ -27,13 +28,6 @@ use proof_tree::{Capped, Item, NodeTaker, Relaxation, TakeStop, floor_cap, great
 use row_kit::{Area, Found};
 use row_relax::{RowPick, Rows};
 use std::alloc::AllocError;
-
-// Who advises a search: a hinter on points, and a guide on certificates and splits.
-#[derive(Drop)]
-pub(crate) struct SearchAdvisers<'a, H, G> {
-    pub hinter: &'a mut H,
-    pub guide: &'a mut G,
-}
 
 // A split of a box: where, and the certificate that stands for its parts where they are left open.
 #[derive(Clone, Copy)]

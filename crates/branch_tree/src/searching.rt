@@ -4,17 +4,20 @@ ghost use Rattle.proof_tree.specs.Taker.{Rose};
 ghost use Rattle.proof_tree.specs.Tree.{tree_of};
 ghost use Rattle.proof_tree.specs.Items.{tree_items};
 ghost use Rattle.proof_tree.specs.Built.{HoldsItems};
-ghost use Rattle.branch_tree.specs.Searched.{IsExact, IsSearch, AreSearchable, IsSearchedTo, IsBrokenOff, IsWorth, ended_of};
-ghost use Rattle.row_relax.specs.Choices.{HaveImages, choices_of};
+ghost use Rattle.branch_tree.specs.Searched.{IsExact, IsSearchedTo, IsBrokenOff, IsWorth, ended_of};
+ghost use Rattle.branch_tree.specs.SearchRequest.{BeganFor, CanSearch, IsExactFor, IsSearchFor, WasBrokenOff, WasSearched};
+ghost use Rattle.row_relax.specs.Choices.{HaveImages};
 ghost use Rattle.row_relax.specs.RowProofs.{RowTree};
 ghost use Rattle.branch_tree.specs.laws.Grounds.{IsGround, IsOffered, IsStart, program_of, rows_of, choices_at};
 
-use crate::boxes::{SearchAdvisers, search_box, worth_of};
+use crate::advisers::SearchAdvisers;
+use crate::boxes::{search_box, worth_of};
 use crate::copies::RowCopier;
 use crate::ended::{Ended, Guided, Searched};
 use crate::found::{better, put_least, tested};
 use crate::judging::exceeds;
 use crate::reached::{Ground, Reached};
+use crate::request::SearchRequest;
 use box_advice::{Guide, Hinter};
 use proof_tree::{NodeTaker, TakeStop, TreeTaker};
 use range_prop::RowIndex;
@@ -102,50 +105,43 @@ fn search_root<H: Hinter, G: Guide, O, T: NodeTaker<Rows, O>>(
 
 /// As `search_to`, with a guide that may leave boxes open though budget is left. The answer also says whether the count is
 /// exact: whether the budget was spent, or nothing is left open.
-///
-/// At most `most` splits stand one below another. Slots from the number `given` on are sums, and may be split at any value; those
-/// below it are split at 0 or in the middle alone.
-/// Where `floors` says so, a split may forget, by its certificate, points that are worth no more than the best one so far.
-/// Points are judged by the choices of the rows, and each lawful one is to have an image there. The best point is worth as much as
-/// `start`, where that is a lawful point; any other is passed over.
 pub fn search_guided_to<H: Hinter, G: Guide, O, T: NodeTaker<Rows, O>>(
     alloc: Global,
-    rows: &Rows,
-    most: u32,
-    given: u32,
-    floors: bool,
-    budget: u32,
-    start: &[u8],
+    sought: &SearchRequest,
     hinter: &mut H,
     guide: &mut G,
     taker: &mut T,
     out: &mut O,
 ) -> Result<Guided, TakeStop>
-    requires searchable { AreSearchable most rows.now }
-    requires budget { (1 ≤ budget) × (budget ≤ 100000) }
+    requires can { CanSearch sought.now }
     requires ready { T.ready taker.old out.old }
     ensures ready { OnOk result (T.ready taker.new out.new) }
-    ensures ok { IfOk result (λ guided. IsSearchedTo T.took most rows.now floors given budget
-        guided.ended taker.old out.old taker.new out.new) }
-    ensures begun { IfOk result
-        (λ guided. IsWorth (choices_of rows.now) start.now guided.ended.best) }
+    ensures ok { IfOk result (λ guided. WasSearched T.took sought.now guided.ended taker.old
+        out.old taker.new out.new) }
+    ensures begun { IfOk result (λ guided. BeganFor sought.now guided.ended.best) }
     ensures exact { IfOk result
-        (λ guided. guided.exact ≡ true → IsExact rows.now.program budget guided.ended) }
+        (λ guided. guided.exact ≡ true → IsExactFor sought.now guided.ended) }
     ensures inexact { IfOk result
         (λ guided. guided.exact ≡ false
-        → (guided.ended.left_open ≡ true) × (guided.ended.spent ≢ budget)) }
-    ensures err { OnErr result (IsBrokenOff T.took T.broke most rows.now floors taker.old out.old
+        → (guided.ended.left_open ≡ true) × (guided.ended.spent ≢ sought.now.budget)) }
+    ensures err { OnErr result (WasBrokenOff T.took T.broke sought.now taker.old out.old
         taker.new out.new) }
     ensures later { T.faults out.old ≤ T.faults out.new }
     ensures failed { IsErrOf result TakeStop.Failed → Rose (T.faults out.old) (T.faults out.new) }
 {
+    let SearchRequest {
+        rows,
+        rules,
+        budget,
+        start,
+    } = *sought;
     let ground = Ground {
         alloc,
         rows,
         index: RowIndex::new(alloc, &rows.program)?,
-        most,
-        given,
-        floors,
+        most: rules.most,
+        given: rules.given,
+        floors: rules.floors,
         budget,
         may_leave: true,
     };
@@ -158,45 +154,39 @@ pub fn search_guided_to<H: Hinter, G: Guide, O, T: NodeTaker<Rows, O>>(
 /// a justified proof that covers the root, whose numbers the answer tells. It counts at most as many boxes as the budget, and
 /// leaves a box open only where it counted just as many: the guide is not asked which to leave. After an error the taker took the first
 /// items of some proof.
-///
-/// At most `most` splits stand one below another. Slots from the number `given` on are sums, and may be split at any value; those
-/// below it are split at 0 or in the middle alone.
-/// Where `floors` says so, a split may forget, by its certificate, points that are worth no more than the best one so far.
-/// Points are judged by the choices of the rows, and each lawful one is to have an image there. The best point is worth as much as
-/// `start`, where that is a lawful point; any other is passed over.
 pub fn search_to<H: Hinter, G: Guide, O, T: NodeTaker<Rows, O>>(
     alloc: Global,
-    rows: &Rows,
-    most: u32,
-    given: u32,
-    floors: bool,
-    budget: u32,
-    start: &[u8],
+    sought: &SearchRequest,
     hinter: &mut H,
     guide: &mut G,
     taker: &mut T,
     out: &mut O,
 ) -> Result<Ended, TakeStop>
-    requires searchable { AreSearchable most rows.now }
-    requires budget { (1 ≤ budget) × (budget ≤ 100000) }
+    requires can { CanSearch sought.now }
     requires ready { T.ready taker.old out.old }
     ensures ready { OnOk result (T.ready taker.new out.new) }
-    ensures ok { IfOk result (λ ended. IsSearchedTo T.took most rows.now floors given budget
-        ended taker.old out.old taker.new out.new) }
-    ensures begun { IfOk result (λ ended. IsWorth (choices_of rows.now) start.now ended.best) }
-    ensures exact { IfOk result (IsExact rows.now.program budget) }
-    ensures err { OnErr result (IsBrokenOff T.took T.broke most rows.now floors taker.old out.old
+    ensures ok { IfOk result (λ ended. WasSearched T.took sought.now ended taker.old out.old
+        taker.new out.new) }
+    ensures begun { IfOk result (λ ended. BeganFor sought.now ended.best) }
+    ensures exact { IfOk result (IsExactFor sought.now) }
+    ensures err { OnErr result (WasBrokenOff T.took T.broke sought.now taker.old out.old
         taker.new out.new) }
     ensures later { T.faults out.old ≤ T.faults out.new }
     ensures failed { IsErrOf result TakeStop.Failed → Rose (T.faults out.old) (T.faults out.new) }
 {
+    let SearchRequest {
+        rows,
+        rules,
+        budget,
+        start,
+    } = *sought;
     let ground = Ground {
         alloc,
         rows,
         index: RowIndex::new(alloc, &rows.program)?,
-        most,
-        given,
-        floors,
+        most: rules.most,
+        given: rules.given,
+        floors: rules.floors,
         budget,
         may_leave: false,
     };
@@ -204,47 +194,24 @@ pub fn search_to<H: Hinter, G: Guide, O, T: NodeTaker<Rows, O>>(
 }
 
 /// As `search`, with a guide that may leave boxes open though budget is left. The answer also says whether the count is exact.
-///
-/// At most `most` splits stand one below another. Slots from the number `given` on are sums, and may be split at any value; those
-/// below it are split at 0 or in the middle alone.
-/// Where `floors` says so, a split may forget, by its certificate, points that are worth no more than the best one so far.
-/// Points are judged by the choices of the rows, and each lawful one is to have an image there. The best point is worth as much as
-/// `start`, where that is a lawful point; any other is passed over.
 pub fn search_guided<H: Hinter, G: Guide>(
     alloc: Global,
-    rows: &Rows,
-    most: u32,
-    given: u32,
-    floors: bool,
-    budget: u32,
-    start: &[u8],
+    sought: &SearchRequest,
     hinter: &mut H,
     guide: &mut G,
 ) -> Result<(Searched, bool), AllocError>
-    requires searchable { AreSearchable most rows.now }
-    requires budget { (1 ≤ budget) × (budget ≤ 100000) }
-    ensures ok { IfOk result (λ found. IsSearch most rows.now floors given budget
-        (tree_of found.0.tree) (ended_of found.0)) }
-    ensures begun { IfOk result (λ found. IsWorth (choices_of rows.now) start.now found.0.best) }
+    requires { CanSearch sought.now }
+    ensures ok { IfOk result
+        (λ found. IsSearchFor sought.now (ended_of found.0) (tree_of found.0.tree)) }
+    ensures begun { IfOk result (λ found. BeganFor sought.now found.0.best) }
     ensures exact { IfOk result
-        (λ found. found.1 ≡ true → IsExact rows.now.program budget (ended_of found.0)) }
+        (λ found. found.1 ≡ true → IsExactFor sought.now (ended_of found.0)) }
     ensures inexact { IfOk result
-        (λ found. found.1 ≡ false → (found.0.left_open ≡ true) × (found.0.spent ≢ budget)) }
+        (λ found. found.1 ≡ false
+        → (found.0.left_open ≡ true) × (found.0.spent ≢ sought.now.budget)) }
 {
     let mut taker = TreeTaker::new(alloc, RowCopier);
-    match search_guided_to(
-        alloc,
-        rows,
-        most,
-        given,
-        floors,
-        budget,
-        start,
-        hinter,
-        guide,
-        &mut taker,
-        &mut (),
-    ) {
+    match search_guided_to(alloc, sought, hinter, guide, &mut taker, &mut ()) {
         Ok(guided) => Ok((with_tree(guided.ended, taker), guided.exact)),
         Err(_) => Err(AllocError),
     }
@@ -252,45 +219,20 @@ pub fn search_guided<H: Hinter, G: Guide>(
 
 /// Searches the root by branch and bound, and builds the proof: a justified one that covers the root, whose numbers the answer
 /// tells. It counts at most as many boxes as the budget, and leaves a box open only where it counted just as many.
-///
-/// At most `most` splits stand one below another. Slots from the number `given` on are sums, and may be split at any value; those
-/// below it are split at 0 or in the middle alone.
-/// Where `floors` says so, a split may forget, by its certificate, points that are worth no more than the best one so far.
-/// Points are judged by the choices of the rows, and each lawful one is to have an image there. The best point is worth as much as
-/// `start`, where that is a lawful point; any other is passed over.
 pub fn search<H: Hinter, G: Guide>(
     alloc: Global,
-    rows: &Rows,
-    most: u32,
-    given: u32,
-    floors: bool,
-    budget: u32,
-    start: &[u8],
+    sought: &SearchRequest,
     hinter: &mut H,
     guide: &mut G,
 ) -> Result<Searched, AllocError>
-    requires searchable { AreSearchable most rows.now }
-    requires budget { (1 ≤ budget) × (budget ≤ 100000) }
-    ensures ok { IfOk result (λ searched. IsSearch most rows.now floors given budget
-        (tree_of searched.tree) (ended_of searched)) }
-    ensures begun { IfOk result
-        (λ searched. IsWorth (choices_of rows.now) start.now searched.best) }
-    ensures exact { IfOk result (λ searched. IsExact rows.now.program budget (ended_of searched)) }
+    requires { CanSearch sought.now }
+    ensures ok { IfOk result
+        (λ searched. IsSearchFor sought.now (ended_of searched) (tree_of searched.tree)) }
+    ensures begun { IfOk result (λ searched. BeganFor sought.now searched.best) }
+    ensures exact { IfOk result (λ searched. IsExactFor sought.now (ended_of searched)) }
 {
     let mut taker = TreeTaker::new(alloc, RowCopier);
-    match search_to(
-        alloc,
-        rows,
-        most,
-        given,
-        floors,
-        budget,
-        start,
-        hinter,
-        guide,
-        &mut taker,
-        &mut (),
-    ) {
+    match search_to(alloc, sought, hinter, guide, &mut taker, &mut ()) {
         Ok(ended) => Ok(with_tree(ended, taker)),
         Err(_) => Err(AllocError),
     }

@@ -16,7 +16,7 @@ use crate::leaves::{cap_of, may_search};
 use crate::new_log::Out;
 use crate::walk::{OpenSplit, Walk, open_split, turn};
 use box_advice::Hinter;
-use branch_tree::GoingOn;
+use branch_tree::{BoxPlace, GoingOn};
 use dual_bound::Cert;
 use end_advice::EndGuide;
 use log_nodes::{Ending, Node, Pair, WalkStop, enter_node, is_open, item_of};
@@ -276,12 +276,12 @@ fn search_end<H: Hinter + Drop, G: EndGuide + Drop, F: Shelf>(
     let Some((cert, is_counted)) = held_of(end) else {
         return Err(WalkStop::Other);
     };
+    let place = BoxPlace { depth, held: cert };
     make_room(&mut course.going, is_counted);
     course.out.skips = true;
     let cap = course.going.search(
         area,
-        depth,
-        cert,
+        place,
         &mut course.hinter,
         &mut course.guide,
         &mut course.out,

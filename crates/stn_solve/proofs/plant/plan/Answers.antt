@@ -8,7 +8,7 @@ use Rattle.valid_log.proofs.PlantRanges.{plant-ranges}
 use Rattle.plan_told.specs.Proofs.{HasProof}
 use Rattle.plan_told.proofs.WholePlant.{whole-is_part, whole-outcome}
 use Rattle.stn_solve.proofs.BegunTold.{begun-if}
-use Rattle.stn_solve.proofs.plant.plan_from.Goals as goal
+use Rattle.stn_solve.proofs.plant.plan.Goals as goal
 
 pub plan_rows-requires-clause-part : goal.plan_rows-requires-clause-part
 plan_rows-requires-clause-part g c = whole-is_part c.args.plant.now c.in_ok-program.field-0.program c.in_ok-program.ensures.made c.in_ok-program.ensures.means
