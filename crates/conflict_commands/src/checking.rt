@@ -22,7 +22,7 @@ use answer_texts::numbered_defect;
 use command_replies::{Reply, Stopped, plant_in};
 use fewer_orders::alone;
 use least_horizon::speaks_against;
-use log_check::CheckStop;
+use log_stops::CheckStop;
 use log_lines::Defect;
 use order_text::{OrderStop, read_conflict};
 use proof_log::log_name;

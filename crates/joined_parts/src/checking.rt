@@ -10,7 +10,7 @@ ghost use Rattle.store_frames.specs.Frames.{OnlyReads};
 ghost use Rattle.joined_parts.specs.laws.Divided.{IsDivided};
 
 use crate::heads::read_front;
-use log_check::CheckStop;
+use log_stops::CheckStop;
 use log_parts::{Checked, Declared, LogFront, LogHead, PartCheck, compared};
 use plant_check::check_part;
 use plant_parts::part_rows;

@@ -10,7 +10,7 @@ ghost use Rattle.store_frames.specs.Frames.{OnlyReads};
 use crate::checker::Checker;
 use crate::claims::claim_defect;
 use crate::course::Course;
-use crate::stop::CheckStop;
+use log_stops::CheckStop;
 use log_lines::{Defect, Limits};
 use proof_log::{Claim, LogPart, LogReader};
 use proof_tree::Capped;

@@ -2,7 +2,7 @@
 ghost use Rattle.std.specs.Prelude.{◌≡◌, ◌≢◌, ◌≤◌, Err, IfOk, take};
 ghost use Rattle.valid_log.specs.AnyVersion.{given_claim, given_verdict, in_file};
 
-use log_check::CheckStop;
+use log_stops::CheckStop;
 use log_lines::Defect;
 use proof_log::Claim;
 use row_kit::List;

@@ -8,7 +8,7 @@ ghost use Rattle.valid_log.specs.Heads.{AreSetups, no_setups, setup_size, setup_
 ghost use Rattle.plant_check.specs.Heads.{AreSetupsHeld};
 ghost use Rattle.store_frames.specs.Frames.{OnlyReads};
 
-use log_check::CheckStop;
+use log_stops::CheckStop;
 use log_lines::Limits;
 use row_kit::List;
 use setup_lines::{SetupFront, SetupSize, Setups};

@@ -18,7 +18,7 @@ use command_replies::{Reply, Stopped, plant_in};
 use command_words::{Budget, Share as WordShare};
 use end_advice::EndAdvisers;
 use log_nodes::Share;
-use log_parts::JoinStop;
+use log_stops::JoinStop;
 use log_resuming::{Going, resume};
 use std::alloc::Global;
 use stn_edge::Shelf;
