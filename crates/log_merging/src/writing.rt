@@ -10,10 +10,10 @@ ghost use Rattle.log_merging.specs.laws.Written.{HasMergedWhole, HasWritten};
 
 use log_parts::{begin_log, joined_version};
 use log_stops::JoinStop;
-use opened_logs::profit_of;
 use merge_ends::{Work, begin_all, claim_with_cap, end_log, read_ends};
 use merge_walk::merge_node;
 use merged_nodes::{Merging, Source};
+use opened_logs::profit_of;
 use proof_log::{Claim, LogWriter};
 use proof_tree::Capped;
 use std::alloc::Global;

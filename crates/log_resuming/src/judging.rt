@@ -13,13 +13,11 @@ ghost use Rattle.log_resuming.specs.laws.Judged.{IsMeasured, Judges};
 use crate::numbers::{is_spent, is_within};
 use crate::resuming::Going;
 use branch_tree::is_searchable;
-use log_stops::CheckStop;
 use log_growth::{Growth, growth};
 use log_nodes::{Pair, Share};
 use log_parts::{LogHead, declares_same};
-use opened_logs::{
-    Opened, cap_of, front_of, is_no_less, is_no_more, is_open, open_log, profit_of,
-};
+use log_stops::CheckStop;
+use opened_logs::{Opened, cap_of, front_of, is_no_less, is_no_more, is_open, open_log, profit_of};
 use plant_check::check_stream;
 use proof_log::Claim;
 use row_relax::Rows;

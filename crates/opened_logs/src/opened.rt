@@ -15,9 +15,9 @@ ghost use Rattle.valid_log.specs.Heads.{IsWithHead, limits_with};
 ghost use Rattle.opened_logs.specs.Opened.{IsOpened, IsOpenedHead, IsOpenedOver, IsOpenedSetUp, front_of};
 
 use derivation_lines::{Tail, TailFront};
-use log_stops::CheckStop;
 use log_nodes::Front as ProofFront;
 use log_parts::{LogHead, head_with, no_head};
+use log_stops::CheckStop;
 use plant_check::{judge_head, limits_behind, plant_limits, read_setups, read_tail};
 use row_kit::{Domain, Program};
 use row_relax::Rows;
