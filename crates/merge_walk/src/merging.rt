@@ -11,7 +11,7 @@ ghost use Rattle.merge_walk.specs.laws.Opened.{merging_walk};
 ghost use Rattle.merge_walk.specs.laws.Walked.{HasMerged};
 
 use crate::nodes::merge_here;
-use log_parts::JoinStop;
+use log_stops::JoinStop;
 use merged_nodes::{Merging, Source};
 use open_splits::{Met, OpenSplit, Way, turn};
 use proof_log::LogWriter;

@@ -14,7 +14,8 @@ ghost use Rattle.merged_nodes.specs.laws.Looked.{AreApart, AreReading, HasLooked
 ghost use Rattle.merge_walk.specs.laws.Walked.{CanMerge};
 
 use log_nodes::{MOST_NODES, Node, cut_down, item_of};
-use log_parts::{JoinStop, put_item};
+use log_parts::put_item;
+use log_stops::JoinStop;
 use merged_nodes::{Capping, Looked, Merging, Source, closes, look, pass_below, put_end, put_node};
 use open_splits::{Met, OpenSplit};
 use proof_log::LogWriter;
