@@ -28,7 +28,7 @@ use Rattle.merged_nodes.specs.laws.Looked.{AreApart, AreReading, MayReadAll}
 use Rattle.merged_nodes.specs.laws.Puts.{PutsItems}
 use Rattle.log_parts.proofs.Frames.{both-then}
 use Rattle.merge_walk.specs.laws.Opened.{AreSame, HasWritten, Merges, Reached, merging_walk}
-use Rattle.merge_walk.specs.laws.Walked.{HasMerged, HasMergedParts, HasMergedSplit}
+use Rattle.merge_walk.specs.laws.Walked.{HasMerged, HasMergedSplit}
 use Rattle.merge_walk.proofs.KeptLogs.{same-apart, same-may-read, same-trees}
 use Rattle.merge_walk.proofs.MergedNodes.{node-merged, parts-merged}
 

@@ -187,11 +187,5 @@ fn open_split<F: Shelf>(
         return Ok(None);
     };
     let floor = merging.rows.trim(area, pick, cert);
-    Ok(open_splits::open_split(
-        merging.rows,
-        area,
-        depth,
-        pick,
-        floor,
-    ))
+    Ok(open_splits::open_split(merging.rows, area, depth, pick, floor))
 }

@@ -1,5 +1,5 @@
 -- A split that is the same in both proofs is opened, and its area is narrowed to its left part.
-use Rattle.std.proofs.Common.{◌≡◌, ◌∙◌, ℕ, List, map, Some, sym, ap, subst, arith}
+use Rattle.std.proofs.Common.{◌≡◌, ◌∙◌, List, map, Some, sym, ap, subst, arith}
 use Rattle.std.specs.Prelude.{Bool, if◌then◌else◌}
 use Rattle.proof_tree.specs.Cap.{floor_cap}
 use Rattle.proof_tree.specs.Tree.{after_cuts}

@@ -1,14 +1,15 @@
 -- Each step leaves less to do, and what follows behind it is what was to follow.
-use Rattle.std.proofs.Common.{◌≡◌, ◌∙◌, ◌+◌, ℕ, ℤ, List, [], ◌∷◌, map, Option, Some, refl, sym, ap, subst}
+use Rattle.std.proofs.Common.{◌≡◌, ◌∙◌, ℕ, ℤ, List, [], ◌∷◌, map, Option, Some, refl, sym, ap, subst}
 use Rattle.std.proofs.Math.Seq.{take-length}
 use Rattle.proof_tree.specs.declared.capped.Capped.{Capped}
-use Rattle.proof_tree.specs.Views.{View, present}
 use Rattle.row_relax.specs.View.{view_of}
+use Rattle.log_nodes.proofs.Frames.{none-done}
 use Rattle.log_nodes.proofs.Parts.{none-left}
 use Rattle.log_nodes.proofs.Walking.{back-there, mark-within}
 use Rattle.open_splits.specs.declared.splits.OpenSplit.{OpenSplit}
 use Rattle.open_splits.specs.declared.way.Met.TheVariants.{End, Split}
 use Rattle.open_splits.specs.declared.way.Way.TheVariants.{Down, Up}
+use Rattle.open_splits.specs.laws.Behind.{HasGoneOn, HasMet}
 use Rattle.open_splits.specs.laws.Opened.{StandsIn}
 use Rattle.open_splits.proofs.Standing.{at-some}
 use Rattle.open_splits.proofs.Steps.{IsAt, gone-on, gone-smaller, met-smaller}
@@ -17,32 +18,72 @@ use Rattle.merge_walk.specs.laws.Opened.{Reached, merging_walk}
 use Rattle.merge_walk.proofs.Steps.{Begun, node-written, turns-on, walk_of, whole_of}
 use Rattle.merge_walk.proofs.merging.merge_node.Goals as goal
 
+pub steps-init : goal.steps-init
+steps-init g c =
+    let begun : Begun = record {
+      rows = c.args.merging.rows.now;
+      best = c.args.merging.best;
+      stem = c.args.merging.stem.now;
+      depth = c.args.depth;
+      views = map view_of c.args.area.now;
+      here = record { told = g.F.Shelf.files c.args.files.now; sources = c.args.sources.now.items; writer = c.args.writer.now };
+    } in
+    let at : IsAt begun.rows.program (walk_of begun) begun.views (whole_of begun) c.new-splits.result begun.views begun.here (Down begun.depth) =
+    subst (λ (splits : List (OpenSplit (Option ℤ) Capped)). IsAt begun.rows.program (walk_of begun) begun.views (whole_of begun) splits begun.views begun.here (Down begun.depth)) (sym c.new-splits.ensures) (take-length begun.views, λ later cap is. is) in
+    record { may_read = c.requires.may_read; may_write = c.requires.may_write; apart = c.requires.apart; reading = c.requires.reading; fits = c.requires.fits; named = refl; frame = none-done; at = at }
+
 -- ---- down
 
 pub steps-smaller-in-Some-End : goal.steps-smaller-in-Some-End
 steps-smaller-in-Some-End g c =
-    let is = c.in-Some-End.is ∙ ap Some c.in-Some-End.field-0-is in
-    let met = at-some _ is c.in_ok-merge_here-in-Down.ensures.written in
-    met-smaller _ (merging_walk c.args.merging.rows.now c.args.merging.best c.args.merging.stem.now (name_of c.steps.writer)) _ _ _ _ 36865 (λ (depth : ℕ). depth) c.in-Down.below c.steps.splits c.steps.splits (End c.in-Some-End.cap) c.steps.way (Up c.in-Some-End.cap) (λ split left. refl) c.in-Down.is met (refl, refl)
+    let rows = c.args.merging.rows.now in
+    let walk = merging_walk rows c.args.merging.best c.args.merging.stem.now (name_of c.steps.writer) in
+    let here : Reached = record { told = g.F.Shelf.files c.steps.files; sources = c.steps.sources.items; writer = c.steps.writer } in
+    let later : Reached = record { told = g.F.Shelf.files c.merge_here.new.files; sources = c.merge_here.new.sources.items; writer = c.merge_here.new.writer } in
+    let views = map view_of c.steps.area in
+    let wide = map view_of c.merge_here.new.area in
+    let met = at-some (HasMet rows.program walk 36865 c.in-Down.below c.in-Down.below views wide here later) (c.in-Some-End.is ∙ ap Some c.in-Some-End.field-0-is) c.in_ok-merge_here-in-Down.ensures.written in
+    met-smaller rows.program walk views wide here later 36865 (λ (depth : ℕ). depth) c.in-Down.below c.steps.splits c.steps.splits (End c.in-Some-End.cap) c.steps.way (Up c.in-Some-End.cap) (λ split left. refl) c.in-Down.is met (refl, refl)
 
 pub steps-preserved-in-Some-End : goal.steps-preserved-in-Some-End
 steps-preserved-in-Some-End g c =
+    let begun : Begun = record {
+      rows = c.args.merging.rows.now;
+      best = c.args.merging.best;
+      stem = c.args.merging.stem.now;
+      depth = c.args.depth;
+      views = map view_of c.args.area.now;
+      here = record { told = g.F.Shelf.files c.args.files.now; sources = c.args.sources.now.items; writer = c.args.writer.now };
+    } in
     let said = c.in_ok-merge_here-in-Down.ensures in
     let is = c.in-Some-End.is ∙ ap Some c.in-Some-End.field-0-is in
-    node-written g.F.Shelf _ c.args.files.now c.steps.files c.merge_here.new.files (map view_of c.steps.area) (map view_of c.merge_here.new.area) c.steps.sources.items c.merge_here.new.sources.items c.steps.writer c.merge_here.new.writer c.steps.splits c.steps.splits c.steps.way (Up c.in-Some-End.cap) c.in-Down.below (End c.in-Some-End.cap)
+    node-written g.F.Shelf begun c.args.files.now c.steps.files c.merge_here.new.files (map view_of c.steps.area) (map view_of c.merge_here.new.area) c.steps.sources.items c.merge_here.new.sources.items c.steps.writer c.merge_here.new.writer c.steps.splits c.steps.splits c.steps.way (Up c.in-Some-End.cap) c.in-Down.below (End c.in-Some-End.cap)
     c.steps.invariant c.in-Down.is (at-some _ is said.same) said.frame said.named (at-some _ is said.reading) (at-some _ is said.fits) (at-some _ is said.written) (refl, refl)
 
 pub steps-smaller-in-Some-Split : goal.steps-smaller-in-Some-Split
 steps-smaller-in-Some-Split g c =
-    let is = c.in-Some-Split.is ∙ ap Some c.in-Some-Split.field-0-is in
-    let met = at-some _ is c.in_ok-merge_here-in-Down.ensures.written in
-    met-smaller _ (merging_walk c.args.merging.rows.now c.args.merging.best c.args.merging.stem.now (name_of c.steps.writer)) _ _ _ _ 36865 (λ (depth : ℕ). depth) c.in-Down.below c.steps.splits c.push.new.self (Split c.in-Some-Split.split) c.steps.way (Down c.in-Some-Split.split.below) (λ split left. refl) c.in-Down.is met (c.in_ok-push-in-Some-Split.ensures.ok, refl)
+    let rows = c.args.merging.rows.now in
+    let walk = merging_walk rows c.args.merging.best c.args.merging.stem.now (name_of c.steps.writer) in
+    let here : Reached = record { told = g.F.Shelf.files c.steps.files; sources = c.steps.sources.items; writer = c.steps.writer } in
+    let later : Reached = record { told = g.F.Shelf.files c.merge_here.new.files; sources = c.merge_here.new.sources.items; writer = c.merge_here.new.writer } in
+    let views = map view_of c.steps.area in
+    let wide = map view_of c.merge_here.new.area in
+    let met = at-some (HasMet rows.program walk 36865 c.in-Down.below c.in-Down.below views wide here later) (c.in-Some-Split.is ∙ ap Some c.in-Some-Split.field-0-is) c.in_ok-merge_here-in-Down.ensures.written in
+    met-smaller rows.program walk views wide here later 36865 (λ (depth : ℕ). depth) c.in-Down.below c.steps.splits c.push.new.self (Split c.in-Some-Split.split) c.steps.way (Down c.in-Some-Split.split.below) (λ split left. refl) c.in-Down.is met (c.in_ok-push-in-Some-Split.ensures.ok, refl)
 
 pub steps-preserved-in-Some-Split : goal.steps-preserved-in-Some-Split
 steps-preserved-in-Some-Split g c =
+    let begun : Begun = record {
+      rows = c.args.merging.rows.now;
+      best = c.args.merging.best;
+      stem = c.args.merging.stem.now;
+      depth = c.args.depth;
+      views = map view_of c.args.area.now;
+      here = record { told = g.F.Shelf.files c.args.files.now; sources = c.args.sources.now.items; writer = c.args.writer.now };
+    } in
     let said = c.in_ok-merge_here-in-Down.ensures in
     let is = c.in-Some-Split.is ∙ ap Some c.in-Some-Split.field-0-is in
-    node-written g.F.Shelf _ c.args.files.now c.steps.files c.merge_here.new.files (map view_of c.steps.area) (map view_of c.merge_here.new.area) c.steps.sources.items c.merge_here.new.sources.items c.steps.writer c.merge_here.new.writer c.steps.splits c.push.new.self c.steps.way (Down c.in-Some-Split.split.below) c.in-Down.below
+    node-written g.F.Shelf begun c.args.files.now c.steps.files c.merge_here.new.files (map view_of c.steps.area) (map view_of c.merge_here.new.area) c.steps.sources.items c.merge_here.new.sources.items c.steps.writer c.merge_here.new.writer c.steps.splits c.push.new.self c.steps.way (Down c.in-Some-Split.split.below) c.in-Down.below
     (Split c.in-Some-Split.split) c.steps.invariant c.in-Down.is (at-some _ is said.same) said.frame said.named (at-some _ is said.reading) (at-some _ is said.fits) (at-some _ is said.written) (c.in_ok-push-in-Some-Split.ensures.ok, refl)
 
 -- ---- up
@@ -53,9 +94,17 @@ go_on-requires-clause-within g c =
 
 pub steps-smaller : goal.steps-smaller
 steps-smaller g c =
-    let walk = merging_walk c.args.merging.rows.now c.args.merging.best c.args.merging.stem.now (name_of c.args.writer.now) in
-    let gone = at-some _ c.in-Some-go_on.is (c.in_ok-go_on.ensures.gone c.args.merging.best c.args.merging.stem.now (name_of c.args.writer.now)) in
-    gone-smaller _ walk _ _ 36865 (λ (depth : ℕ). depth) c.in-Some.split c.in-Up.cap c.take_top.new.self c.steps.splits c.go_on.new.splits c.steps.way c.in-Some-go_on.next (λ split left. refl) c.in-Up.is c.in-Some.ensures gone
+    let rows = c.args.merging.rows.now in
+    let best = c.args.merging.best in
+    let stem = c.args.merging.stem.now in
+    let name = name_of c.args.writer.now in
+    let views = map view_of c.steps.area in
+    let wide = map view_of c.go_on.new.area in
+    let split = c.in-Some.split in
+    let rest = c.take_top.new.self in
+    let further = c.go_on.new.splits in
+    let gone = at-some (HasGoneOn rows.program (merging_walk rows best stem name) split c.in-Up.cap rest further views wide) c.in-Some-2.is (c.in_ok-next-in-Up.ensures.gone best stem name) in
+    gone-smaller rows.program (merging_walk rows best stem name) views wide 36865 (λ (depth : ℕ). depth) split c.in-Up.cap rest c.steps.splits further c.steps.way c.in-Some-2.next (λ split left. refl) c.in-Up.is c.in-Some.ensures gone
 
 pub steps-preserved : goal.steps-preserved
 steps-preserved g c =
@@ -69,10 +118,10 @@ steps-preserved g c =
       here = record { told = g.F.Shelf.files c.args.files.now; sources = c.args.sources.now.items; writer = c.args.writer.now };
     } in
     let views = map view_of c.steps.area in
-    let gone = at-some _ c.in-Some-go_on.is (c.in_ok-go_on.ensures.gone begun.best begun.stem (name_of begun.here.writer)) in
+    let gone = at-some (HasGoneOn begun.rows.program (walk_of begun) c.in-Some.split c.in-Up.cap c.take_top.new.self c.go_on.new.splits views (map view_of c.go_on.new.area)) c.in-Some-2.is (c.in_ok-next-in-Up.ensures.gone begun.best begun.stem (name_of begun.here.writer)) in
     let at = subst (λ (splits : List (OpenSplit (Option ℤ) Capped)). IsAt begun.rows.program (walk_of begun) begun.views (whole_of begun) splits views here (Up c.in-Up.cap)) c.in-Some.ensures (subst (IsAt begun.rows.program (walk_of begun) begun.views (whole_of begun) c.steps.splits views here) c.in-Up.is c.steps.invariant.at) in
-    turns-on g.F.Shelf begun c.args.files.now c.steps.files views (map view_of c.go_on.new.area) c.steps.sources.items c.steps.writer c.steps.splits c.go_on.new.splits c.steps.way c.in-Some-go_on.next c.steps.invariant c.go_on.ensures.fits
-    (gone-on begun.rows.program (walk_of begun) begun.views (whole_of begun) c.in-Some.split c.take_top.new.self c.go_on.new.splits views (map view_of c.go_on.new.area) here c.in-Up.cap c.in-Some-go_on.next at gone)
+    turns-on g.F.Shelf begun c.args.files.now c.steps.files views (map view_of c.go_on.new.area) c.steps.sources.items c.steps.writer c.steps.splits c.go_on.new.splits c.steps.way c.in-Some-2.next c.steps.invariant c.in_ok-next-in-Up.ensures.fits
+    (gone-on begun.rows.program (walk_of begun) begun.views (whole_of begun) c.in-Some.split c.take_top.new.self c.go_on.new.splits views (map view_of c.go_on.new.area) here c.in-Up.cap c.in-Some-2.next at gone)
 
 -- ---- the end of the walk
 

@@ -1,5 +1,5 @@
 -- Each node leaves fewer to read, and where none is open, the area goes back to where the walk began.
-use Rattle.std.proofs.Common.{List, [], map, Some, None, refl, sym, subst, arith}
+use Rattle.std.proofs.Common.{List, map, refl, sym, subst, arith}
 use Rattle.std.specs.Prelude.{⊤}
 use Rattle.std.proofs.Math.Seq.{take-length}
 use Rattle.row_relax.specs.View.{view_of}
@@ -21,17 +21,17 @@ nodes-init g c = record {
 -- ---- behind a node
 
 pub go_on-requires-clause-fits : goal.go_on-requires-clause-fits
-go_on-requires-clause-fits g c = passed-fits c.args.walk.pair c.nodes.depth (map view_of c.nodes.area) (map view_of c.gather_here.new.area) c.in_ok-split.field-0 c.in_ok-split.ensures.passed
+go_on-requires-clause-fits g c = passed-fits c.args.walk.pair c.nodes.depth (map view_of c.nodes.area) (map view_of c.gather_here.new.area) c.in_ok-split.split c.in_ok-split.ensures.passed
 
 pub go_on-requires-clause-stands : goal.go_on-requires-clause-stands
 go_on-requires-clause-stands g c =
     let begun = map view_of c.args.area.now in
-    stands-anywhere begun _ _ (passed-stands c.args.walk.pair c.nodes.depth begun c.nodes.splits (map view_of c.nodes.area) (map view_of c.gather_here.new.area) c.in_ok-split.field-0 c.in_ok-split.ensures.passed c.nodes.invariant.stands)
+    stands-anywhere begun _ _ (passed-stands c.args.walk.pair c.nodes.depth begun c.nodes.splits (map view_of c.nodes.area) (map view_of c.gather_here.new.area) c.in_ok-split.split c.in_ok-split.ensures.passed c.nodes.invariant.stands)
 
 pub nodes-smaller : goal.nodes-smaller
 nodes-smaller g c =
-    let next = subst (HasNext c.in_ok-split.field-0 c.nodes.splits c.go_on.new.splits (map view_of c.gather_here.new.area) (map view_of c.go_on.new.area)) c.in-Some.is c.in_ok-go_on.ensures.next in
-    next-fewer c.args.walk.pair c.nodes.depth c.in-Some.below c.in_ok-split.field-0 c.nodes.splits c.go_on.new.splits (map view_of c.nodes.area) (map view_of c.gather_here.new.area) (map view_of c.go_on.new.area) c.in_ok-split.ensures.passed next
+    let next = subst (HasNext c.in_ok-split.split c.nodes.splits c.go_on.new.splits (map view_of c.gather_here.new.area) (map view_of c.go_on.new.area)) c.in-Some.is c.in_ok-below.ensures.next in
+    next-fewer c.args.walk.pair c.nodes.depth c.in-Some.below c.in_ok-split.split c.nodes.splits c.go_on.new.splits (map view_of c.nodes.area) (map view_of c.gather_here.new.area) (map view_of c.go_on.new.area) c.in_ok-split.ensures.passed next
 
 pub nodes-preserved : goal.nodes-preserved
 nodes-preserved g c =
@@ -39,10 +39,10 @@ nodes-preserved g c =
     let views = map view_of c.gather_here.new.area in
     let wide = map view_of c.go_on.new.area in
     let here = c.in_ok-split.ensures in
-    let split = c.in_ok-split.field-0 in
-    let next = subst (HasNext split c.nodes.splits c.go_on.new.splits views wide) c.in-Some.is c.in_ok-go_on.ensures.next in
+    let split = c.in_ok-split.split in
+    let next = subst (HasNext split c.nodes.splits c.go_on.new.splits views wide) c.in-Some.is c.in_ok-below.ensures.next in
     let stands = passed-stands c.args.walk.pair c.nodes.depth begun c.nodes.splits (map view_of c.nodes.area) views split here.passed c.nodes.invariant.stands in
-    gathers-on c.nodes.invariant here.walking here.frame c.in_ok-go_on.ensures.fits (next-stands begun split c.nodes.splits c.go_on.new.splits views wide c.in-Some.below stands next)
+    gathers-on c.nodes.invariant here.walking here.frame c.in_ok-below.ensures.fits (next-stands begun split c.nodes.splits c.go_on.new.splits views wide c.in-Some.below stands next)
 
 -- ---- the end of the walk
 
@@ -51,8 +51,8 @@ back-requires-clause-within g c =
     let begun = map view_of c.args.area.now in
     let views = map view_of c.gather_here.new.area in
     let wide = map view_of c.go_on.new.area in
-    let split = c.in_ok-split.field-0 in
-    let next = subst (HasNext split c.nodes.splits c.go_on.new.splits views wide) c.in-None.is c.in_ok-go_on.ensures.next in
+    let split = c.in_ok-split.split in
+    let next = subst (HasNext split c.nodes.splits c.go_on.new.splits views wide) c.in-None.is c.in_ok-below.ensures.next in
     let stands = passed-stands c.args.walk.pair c.nodes.depth begun c.nodes.splits (map view_of c.nodes.area) views split c.in_ok-split.ensures.passed c.nodes.invariant.stands in
     mark-within begun wide wide c.mark-mark.result c.mark-mark.ensures (end-stands begun split c.nodes.splits c.go_on.new.splits views wide stands next) refl
 
@@ -61,8 +61,8 @@ returns-in-None-clause-as_before g c =
     let begun = map view_of c.args.area.now in
     let views = map view_of c.gather_here.new.area in
     let wide = map view_of c.go_on.new.area in
-    let split = c.in_ok-split.field-0 in
-    let next = subst (HasNext split c.nodes.splits c.go_on.new.splits views wide) c.in-None.is c.in_ok-go_on.ensures.next in
+    let split = c.in_ok-split.split in
+    let next = subst (HasNext split c.nodes.splits c.go_on.new.splits views wide) c.in-None.is c.in_ok-below.ensures.next in
     let stands = passed-stands c.args.walk.pair c.nodes.depth begun c.nodes.splits (map view_of c.nodes.area) views split c.in_ok-split.ensures.passed c.nodes.invariant.stands in
     back-there begun wide wide (map view_of c.back.new.area) c.mark-mark.result c.mark-mark.ensures (end-stands begun split c.nodes.splits c.go_on.new.splits views wide stands next) refl c.back.ensures.views
 
@@ -72,5 +72,5 @@ returns-in-None-clause-frame g c = reads-then c.nodes.invariant.frame c.in_ok-sp
 pub returns-in_err-split-clause-frame : goal.returns-in_err-split-clause-frame
 returns-in_err-split-clause-frame g c = reads-then c.nodes.invariant.frame c.in_err-split.ensures.frame
 
-pub returns-in_err-go_on-clause-frame : goal.returns-in_err-go_on-clause-frame
-returns-in_err-go_on-clause-frame g c = reads-then c.nodes.invariant.frame c.in_ok-split.ensures.frame
+pub returns-in_err-below-clause-frame : goal.returns-in_err-below-clause-frame
+returns-in_err-below-clause-frame g c = reads-then c.nodes.invariant.frame c.in_ok-split.ensures.frame

@@ -11,8 +11,7 @@ pub returns-in-Some-clause-opened : goal.returns-in-Some-clause-opened
 returns-in-Some-clause-opened c =
     let pair = c.args.walk.pair in
     let old = map view_of c.args.area.now in
-    let new' = map view_of c.open_split.new.area in
-    (
+    let new' = map view_of c.open_split.new.area in (
       record {
         divided = old;
         keeps = take-length old;
