@@ -13,7 +13,7 @@ ghost use Rattle.merge_walk.specs.laws.Walked.{HasMerged};
 
 use crate::nodes::merge_here;
 use crate::way::{OpenSplit, Way, Written};
-use log_parts::JoinStop;
+use log_stops::JoinStop;
 use merged_nodes::{Merging, Source};
 use proof_log::LogWriter;
 use proof_tree::{Capped, Relaxation, Stack, floor_cap, greater_cap};

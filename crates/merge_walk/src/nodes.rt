@@ -15,7 +15,8 @@ ghost use Rattle.merge_walk.specs.laws.Walked.{CanMerge};
 
 use crate::way::{OpenSplit, Written};
 use log_nodes::{MOST_NODES, Node, cut_down, item_of};
-use log_parts::{JoinStop, put_item};
+use log_parts::put_item;
+use log_stops::JoinStop;
 use merged_nodes::{Capping, Looked, Merging, Source, closes, look, pass_below, put_end, put_node};
 use proof_log::LogWriter;
 use proof_tree::{Item, Relaxation};

@@ -12,11 +12,12 @@ ghost use Rattle.log_parts.specs.Heads.{lines_on};
 ghost use Rattle.log_parts.specs.laws.Checked.{IsCounted, head_with};
 ghost use Rattle.plant_check.specs.Heads.{IsHeadHeld, IsTailHeld};
 ghost use Rattle.valid_log.specs.Heads.{IsWithHead, limits_with};
-ghost use Rattle.log_resuming.specs.Opened.{IsOpened, IsOpenedHead, IsOpenedOver, IsOpenedSetUp};
+ghost use Rattle.opened_logs.specs.Opened.{IsOpened, IsOpenedHead, IsOpenedOver, IsOpenedSetUp, front_of};
 
 use derivation_lines::{Tail, TailFront};
-use log_check::CheckStop;
+use log_nodes::Front as ProofFront;
 use log_parts::{LogHead, head_with, no_head};
+use log_stops::CheckStop;
 use plant_check::{judge_head, limits_behind, plant_limits, read_setups, read_tail};
 use row_kit::{Domain, Program};
 use row_relax::Rows;
@@ -32,6 +33,17 @@ use sum_lines::{Front, Head, read_head};
 pub struct Opened {
     pub head: LogHead,
     pub rows: Rows,
+}
+
+/// Where the proof of a log with a head begins, and the limits that it keeps.
+pub fn front_of(head: &LogHead) -> ProofFront
+    ensures { result ≡ front_of head.now }
+{
+    ProofFront {
+        limits: head.limits,
+        version: head.version,
+        head: head.bytes,
+    }
 }
 
 /// Reads the head of a log of a plant; none where it has a defect. It takes memory for what it declares and for the rows.

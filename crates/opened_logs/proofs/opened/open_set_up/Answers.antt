@@ -6,10 +6,10 @@ use Rattle.log_parts.specs.laws.Checked.{head_with}
 use Rattle.valid_log.specs.Heads.{IsWithHead}
 use Rattle.plant_check.specs.Heads.{IsFrontHeld}
 use Rattle.plant_check.proofs.HeadJudged.{held_small}
-use Rattle.log_resuming.specs.Opened.{IsOpenedSetUp}
+use Rattle.opened_logs.specs.Opened.{IsOpenedSetUp}
 use Rattle.log_nodes.proofs.Readings.{ok_some_both}
-use Rattle.log_resuming.proofs.Opening.{opened-tailed}
-use Rattle.log_resuming.proofs.opened.open_set_up.Goals as goal
+use Rattle.opened_logs.proofs.Opening.{opened-tailed}
+use Rattle.opened_logs.proofs.opened.open_set_up.Goals as goal
 
 pub read_tail-requires-clause-rows : goal.read_tail-requires-clause-rows
 read_tail-requires-clause-rows g c = (held_small c.args.plant.now c.args.program (depth_limit c.args.plant.now) c.args.setups c.requires.held).rows

@@ -13,7 +13,7 @@ use Rattle.log_nodes.proofs.Readings.{some_both, some_then}
 use Rattle.log_parts.specs.declared.heads.LogFront.TheVariants as front
 use Rattle.log_parts.specs.declared.heads.LogHead.{LogHead}
 use Rattle.log_parts.specs.laws.Checked.{IsHeadFront, IsLogFront, IsSetUpFront, head_with, no_head}
-use Rattle.joined_parts.proofs.Fronts.{none_read, setups_read}
+use Rattle.opened_logs.proofs.Fronts.{none_read, setups_read}
 use Rattle.sum_lines.specs.declared.head.Front.{Front}
 use Rattle.sum_lines.specs.declared.head.Front.TheVariants.{Plain, Headed}
 use Rattle.sum_lines.specs.declared.head.Head.{Head}
@@ -27,8 +27,8 @@ use Rattle.derivation_lines.specs.declared.tail.TailFront.TheVariants.{Whole}
 use Rattle.valid_log.specs.Heads.{AreSetups, IsTail, IsWithHead, limits_with, setup_sizes}
 use Rattle.valid_log.specs.Verdict.{limits_of}
 use Rattle.valid_log.proofs.LogFronts.{limits_same}
-use Rattle.log_resuming.specs.declared.opened.Opened.{Opened}
-use Rattle.log_resuming.specs.Opened.{IsOpened, IsOpenedHead, IsOpenedOver, IsOpenedSetUp}
+use Rattle.opened_logs.specs.declared.opened.Opened.{Opened}
+use Rattle.opened_logs.specs.Opened.{IsOpened, IsOpenedHead, IsOpenedOver, IsOpenedSetUp}
 
 -- a log without a head
 pub opened-plain : (plant : Plant) (program : Program) (judged : List Domain) (told : Option FileMap) (name : List ℕ) (f : Front) (own : LogHead) → f ≡ Plain → own ≡ no_head (limits_with program (depth_limit plant) 0)

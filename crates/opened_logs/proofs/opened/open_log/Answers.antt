@@ -6,10 +6,10 @@ use Rattle.row_kit.specs.declared.domain.Domain.{Domain}
 use Rattle.sum_slots.specs.Shown.{AreRanges}
 use Rattle.valid_log.proofs.PlantRanges.{plant-ranges}
 use Rattle.valid_log.proofs.Saying.{whole-is_part}
-use Rattle.log_resuming.specs.Opened.{IsOpened, IsOpenedOver}
+use Rattle.opened_logs.specs.Opened.{IsOpened, IsOpenedOver}
 use Rattle.log_nodes.proofs.Readings.{ok_some_then}
-use Rattle.log_resuming.proofs.Opening.{opened-plant}
-use Rattle.log_resuming.proofs.opened.open_log.Goals as goal
+use Rattle.opened_logs.proofs.Opening.{opened-plant}
+use Rattle.opened_logs.proofs.opened.open_log.Goals as goal
 
 pub open_over-requires-clause-part : goal.open_over-requires-clause-part
 open_over-requires-clause-part g c = whole-is_part c.args.plant.now c.in_ok-program.program c.in_ok-program.ensures.made c.in_ok-program.ensures.means

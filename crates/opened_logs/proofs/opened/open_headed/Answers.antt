@@ -6,11 +6,11 @@ use Rattle.log_lines.specs.declared.grammar.Limits.{Limits}
 use Rattle.valid_log.specs.Heads.{AreSetups, limits_with, setup_sizes}
 use Rattle.plant_check.specs.Heads.{AreSetupsHeld, IsSetupsHeld}
 use Rattle.plant_check.proofs.HeadJudged.{held_of}
-use Rattle.joined_parts.proofs.Fronts.{setups_counted}
-use Rattle.log_resuming.specs.Opened.{IsOpenedHead, IsOpenedSetUp}
+use Rattle.opened_logs.proofs.Fronts.{setups_counted}
+use Rattle.opened_logs.specs.Opened.{IsOpenedHead, IsOpenedSetUp}
 use Rattle.log_nodes.proofs.Readings.{ok_some_then}
-use Rattle.log_resuming.proofs.Opening.{opened-set_up}
-use Rattle.log_resuming.proofs.opened.open_headed.Goals as goal
+use Rattle.opened_logs.proofs.Opening.{opened-set_up}
+use Rattle.opened_logs.proofs.opened.open_headed.Goals as goal
 
 pub open_set_up-requires-clause-held : goal.open_set_up-requires-clause-held
 open_set_up-requires-clause-held g c =

@@ -5,8 +5,8 @@ use Rattle.log_parts.specs.declared.heads.LogHead.{LogHead}
 use Rattle.log_parts.specs.Heads.{lines_on}
 use Rattle.plant_check.specs.Heads.{IsHeadHeld, IsJudged}
 use Rattle.plant_check.proofs.HeadJudged.{few_derived, held_small}
-use Rattle.joined_parts.proofs.Fronts.{head_declared}
-use Rattle.log_resuming.proofs.opened.open_tailed.Goals as goal
+use Rattle.opened_logs.proofs.Fronts.{head_declared}
+use Rattle.opened_logs.proofs.opened.open_tailed.Goals as goal
 
 pub limits_behind-limits-requires-clause-rows : goal.limits_behind-limits-requires-clause-rows
 limits_behind-limits-requires-clause-rows c = (held_small c.args.plant.now c.args.program (depth_limit c.args.plant.now) c.args.setups c.requires.held).rows

@@ -7,10 +7,10 @@ use Rattle.log_parts.specs.declared.heads.LogHead.{LogHead}
 use Rattle.log_parts.specs.Heads.{lines_on}
 use Rattle.log_parts.specs.laws.Checked.{no_head}
 use Rattle.sum_lines.specs.Front.{IsFront}
-use Rattle.log_resuming.specs.Opened.{IsOpenedHead, IsOpenedOver}
+use Rattle.opened_logs.specs.Opened.{IsOpenedHead, IsOpenedOver}
 use Rattle.log_nodes.proofs.Readings.{ok_some_then}
-use Rattle.log_resuming.proofs.Opening.{opened-headed, opened-plain}
-use Rattle.log_resuming.proofs.opened.open_over.Goals as goal
+use Rattle.opened_logs.proofs.Opening.{opened-headed, opened-plain}
+use Rattle.opened_logs.proofs.opened.open_over.Goals as goal
 
 pub returns-in-Plain-clause-opened : goal.returns-in-Plain-clause-opened
 returns-in-Plain-clause-opened g c =

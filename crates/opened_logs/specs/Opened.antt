@@ -15,7 +15,7 @@ use Rattle.setup_lines.specs.declared.setups.Setups.{Setups}
 use Rattle.sum_lines.specs.declared.head.Head.{Head}
 use Rattle.valid_log.specs.Heads.{IsWithHead}
 use Rattle.valid_log.specs.Verdict.{limits_of}
-use Rattle.log_resuming.specs.declared.opened.Opened.{Opened}
+use Rattle.opened_logs.specs.declared.opened.Opened.{Opened}
 
 -- rows are those of a program of a plant with all that a head declares, each of which is shown over domains
 abbrev pub IsWithDeclared : Plant → Program → List Domain → LogHead → Rows → Type 0

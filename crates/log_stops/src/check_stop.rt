@@ -1,7 +1,7 @@
 //! Why a log was not checked.
 ghost use Rattle.std.specs.Prelude.{◌≡◌};
-ghost use Rattle.log_check.specs.declared.stop.CheckStop.TheVariants.{Memory as CheckMemory};
-ghost use Rattle.log_check.specs.Stops.{check_stop};
+ghost use Rattle.log_stops.specs.declared.check_stop.CheckStop.TheVariants.{Memory as CheckMemory};
+ghost use Rattle.log_stops.specs.Stops.{check_stop};
 
 use std::alloc::AllocError;
 use stn_edge::Stop;
