@@ -1,5 +1,5 @@
 -- What the walk keeps from one step to the next.
-use Rattle.std.proofs.Common.{◌≡◌, ◌∙◌, ℕ, ℤ, ◌+◌, IsTrue, Bool, List, Option, None, Some, refl, sym, ap, subst}
+use Rattle.std.proofs.Common.{◌≡◌, ◌∙◌, ℕ, ℤ, ◌+◌, IsTrue, Bool, List, ◌∷◌, Option, None, Some, refl, sym, ap, subst}
 use Rattle.stn_edge.specs.Files.{FileMap, OthersStay}
 use Rattle.stn_edge.specs.declared.shelf.Shelf.{Ghosts}
 use Rattle.dual_bound.specs.declared.cert.Cert.{Cert}
@@ -17,10 +17,10 @@ use Rattle.log_nodes.specs.laws.Nodes.{node_items}
 use Rattle.open_splits.specs.declared.splits.OpenSplit.{OpenSplit}
 use Rattle.open_splits.specs.declared.way.Met.{Met}
 use Rattle.open_splits.specs.declared.way.Way.{Way}
-use Rattle.open_splits.specs.declared.way.Way.TheVariants.{Down}
-use Rattle.open_splits.specs.laws.Behind.{Course, Follows, HasMet, Leads, Reaches}
+use Rattle.open_splits.specs.declared.way.Way.TheVariants.{Down, Up}
+use Rattle.open_splits.specs.laws.Behind.{Course, Follows, HasGoneOn, HasMet, Leads, Reaches}
 use Rattle.open_splits.specs.laws.Opened.{HasOpened}
-use Rattle.open_splits.proofs.Steps.{Enters, IsAt, met-on}
+use Rattle.open_splits.proofs.Steps.{Enters, IsAt, gone-on, met-on}
 use Rattle.log_parts.specs.laws.Copying.{name_of}
 use Rattle.store_frames.specs.Frames.{ReadsAndWritesOne}
 use Rattle.merged_nodes.specs.declared.sources.Source.{Source}
@@ -61,25 +61,35 @@ pub record IsWalking {F : Type 0} (S : Ghosts F) (b : Begun) (old now : F) (view
   pub at : IsAt b.rows.program (walk_of b) b.views (whole_of b) splits views (record { told = S.files now; sources = sources; writer = writer }) way
 
 -- a node was written below this one: what may be read and written is as before
-pub node-written : {F : Type 0} (S : Ghosts F) (b : Begun) (old now new : F) (views wide : List View) (before after : List Source) (writer later : LogWriter) (splits further : List (OpenSplit (Option ℤ) Capped)) (way next : Way ℕ Capped) (depth : ℕ) (met : Met (Option ℤ) Capped) → IsWalking S b old now views before writer splits way
+pub node-written : {F : Type 0} {S : Ghosts F} {b : Begun} {old now new : F} {views wide : List View} {before after : List Source} {writer later : LogWriter} {splits further : List (OpenSplit (Option ℤ) Capped)} {way next : Way ℕ Capped} (depth : ℕ) (met : Met (Option ℤ) Capped) → IsWalking S b old now views before writer splits way
     → way ≡ Down depth → AreSame before after → ReadsAndWritesOne S (name_of writer) now new → name_of later ≡ name_of writer → AreReading (S.files new) b.stem after → Fits b.rows.program (present wide) → HasWritten b.rows b.best views wide (S.files now) (S.files new) b.stem depth before after writer later met → Enters (walk_of b) met splits further next
     → IsWalking S b old new wide after later further next
-node-written S b old now new views wide before after writer later splits further way next depth met walking is same frame named reading fits written enters = record {
-  may_read = same-may-read (S.may_read now) (S.may_read new) b.stem before after frame.readable same walking.may_read;
-  may_write = subst (λ (may : List ℕ → Bool). IsTrue (may (name_of later))) (sym frame.writable) (subst (λ (name : List ℕ). IsTrue (S.may_write now name)) (sym named) walking.may_write);
-  apart = same-apart (name_of writer) (name_of later) b.stem before after named same walking.apart;
-  reading = reading;
-  fits = fits;
-  named = named ∙ walking.named;
-  frame = both-then S (name_of b.here.writer) (name_of writer) old now new walking.named walking.frame frame;
-  at = met-on b.rows.program (walk_of b) b.views (whole_of b) 36865 depth depth splits further views wide (record { told = S.files now; sources = before; writer = writer }) (record { told = S.files new; sources = after; writer = later }) met way next walking.at is
-      (subst (λ (name : List ℕ). HasMet b.rows.program (merging_walk b.rows b.best b.stem name) 36865 depth depth views wide (record { told = S.files now; sources = before; writer = writer }) (record { told = S.files new; sources = after; writer = later }) met) walking.named written) enters;
-}
+node-written {F} {S} {b} {old} {now} {new} {views} {wide} {before} {after} {writer} {later} {splits} {further} {way} {next} depth met walking is same frame named reading fits written enters =
+    let here : Reached = record { told = S.files now; sources = before; writer = writer } in
+    let there : Reached = record { told = S.files new; sources = after; writer = later } in
+    record {
+      may_read = same-may-read (S.may_read now) (S.may_read new) b.stem before after frame.readable same walking.may_read;
+      may_write = subst (λ (may : List ℕ → Bool). IsTrue (may (name_of later))) (sym frame.writable) (subst (λ (name : List ℕ). IsTrue (S.may_write now name)) (sym named) walking.may_write);
+      apart = same-apart (name_of writer) (name_of later) b.stem before after named same walking.apart;
+      reading = reading;
+      fits = fits;
+      named = named ∙ walking.named;
+      frame = both-then S (name_of b.here.writer) (name_of writer) old now new walking.named walking.frame frame;
+      at = met-on b.rows.program (walk_of b) b.views (whole_of b) 36865 depth depth splits further views wide here there met way next walking.at is
+          (subst (λ (name : List ℕ). HasMet b.rows.program (merging_walk b.rows b.best b.stem name) 36865 depth depth views wide here there met) walking.named written) enters;
+    }
 
--- nothing was read or written, only the area changed
-pub turns-on : {F : Type 0} (S : Ghosts F) (b : Begun) (old now : F) (views wide : List View) (sources : List Source) (writer : LogWriter) (splits further : List (OpenSplit (Option ℤ) Capped)) (way next : Way ℕ Capped) → IsWalking S b old now views sources writer splits way → Fits b.rows.program (present wide)
-    → IsAt b.rows.program (walk_of b) b.views (whole_of b) further wide (record { told = S.files now; sources = sources; writer = writer }) next → IsWalking S b old now wide sources writer further next
-turns-on S b old now views wide sources writer splits further way next walking fits at = record {
+-- where the walk is at once a part is written that the innermost open split stands above, or none
+pub walk-up : {F : Type 0} {S : Ghosts F} {b : Begun} {old now : F} {views : List View} {sources : List Source} {writer : LogWriter} {splits : List (OpenSplit (Option ℤ) Capped)} {way : Way ℕ Capped} (cap : Capped) (left : List (OpenSplit (Option ℤ) Capped)) → IsWalking S b old now views sources writer splits way → way ≡ Up cap → splits ≡ left
+    → IsAt b.rows.program (walk_of b) b.views (whole_of b) left views (record { told = S.files now; sources = sources; writer = writer }) (Up cap)
+walk-up {F} {S} {b} {old} {now} {views} {sources} {writer} {splits} cap left walking is top =
+    let here : Reached = record { told = S.files now; sources = sources; writer = writer } in
+    subst (λ (all : List (OpenSplit (Option ℤ) Capped)). IsAt b.rows.program (walk_of b) b.views (whole_of b) all views here (Up cap)) top (subst (IsAt b.rows.program (walk_of b) b.views (whole_of b) splits views here) is walking.at)
+
+-- the innermost open split is closed, or its right part is next: nothing was read or written, only the area changed
+pub gone-further : {F : Type 0} {S : Ghosts F} {b : Begun} {old now : F} {views wide : List View} {sources : List Source} {writer : LogWriter} {splits : List (OpenSplit (Option ℤ) Capped)} {way : Way ℕ Capped} (split : OpenSplit (Option ℤ) Capped) (rest further : List (OpenSplit (Option ℤ) Capped)) (cap : Capped) (next : Way ℕ Capped)
+    → IsWalking S b old now views sources writer splits way → way ≡ Up cap → splits ≡ split ∷ rest → Fits b.rows.program (present wide) → HasGoneOn b.rows.program (walk_of b) split cap rest further views wide next → IsWalking S b old now wide sources writer further next
+gone-further {F} {S} {b} {old} {now} {views} {wide} {sources} {writer} split rest further cap next walking is top fits gone = record {
   may_read = walking.may_read;
   may_write = walking.may_write;
   apart = walking.apart;
@@ -87,7 +97,7 @@ turns-on S b old now views wide sources writer splits further way next walking f
   fits = fits;
   named = walking.named;
   frame = walking.frame;
-  at = at;
+  at = gone-on b.rows.program (walk_of b) b.views (whole_of b) split rest further views wide (record { told = S.files now; sources = sources; writer = writer }) cap next (walk-up cap (split ∷ rest) walking is top) gone;
 }
 
 -- other files stay over three stretches of a walk

@@ -12,10 +12,10 @@ use Rattle.open_splits.specs.declared.way.Way.TheVariants.{Down, Up}
 use Rattle.open_splits.specs.laws.Behind.{HasGoneOn, HasMet}
 use Rattle.open_splits.specs.laws.Opened.{StandsIn}
 use Rattle.open_splits.proofs.Standing.{at-some}
-use Rattle.open_splits.proofs.Steps.{IsAt, gone-on, gone-smaller, met-smaller}
+use Rattle.open_splits.proofs.Steps.{IsAt, gone-smaller, met-smaller}
 use Rattle.log_parts.specs.laws.Copying.{name_of}
 use Rattle.merge_walk.specs.laws.Opened.{Reached, merging_walk}
-use Rattle.merge_walk.proofs.Steps.{Begun, node-written, turns-on, walk_of, whole_of}
+use Rattle.merge_walk.proofs.Steps.{Begun, gone-further, node-written, walk-up, walk_of, whole_of}
 use Rattle.merge_walk.proofs.merging.merge_node.Goals as goal
 
 pub steps-init : goal.steps-init
@@ -47,18 +47,9 @@ steps-smaller-in-Some-End g c =
 
 pub steps-preserved-in-Some-End : goal.steps-preserved-in-Some-End
 steps-preserved-in-Some-End g c =
-    let begun : Begun = record {
-      rows = c.args.merging.rows.now;
-      best = c.args.merging.best;
-      stem = c.args.merging.stem.now;
-      depth = c.args.depth;
-      views = map view_of c.args.area.now;
-      here = record { told = g.F.Shelf.files c.args.files.now; sources = c.args.sources.now.items; writer = c.args.writer.now };
-    } in
     let said = c.in_ok-merge_here-in-Down.ensures in
     let is = c.in-Some-End.is ∙ ap Some c.in-Some-End.field-0-is in
-    node-written g.F.Shelf begun c.args.files.now c.steps.files c.merge_here.new.files (map view_of c.steps.area) (map view_of c.merge_here.new.area) c.steps.sources.items c.merge_here.new.sources.items c.steps.writer c.merge_here.new.writer c.steps.splits c.steps.splits c.steps.way (Up c.in-Some-End.cap) c.in-Down.below (End c.in-Some-End.cap)
-    c.steps.invariant c.in-Down.is (at-some _ is said.same) said.frame said.named (at-some _ is said.reading) (at-some _ is said.fits) (at-some _ is said.written) (refl, refl)
+    node-written c.in-Down.below (End c.in-Some-End.cap) c.steps.invariant c.in-Down.is (at-some _ is said.same) said.frame said.named (at-some _ is said.reading) (at-some _ is said.fits) (at-some _ is said.written) (refl, refl)
 
 pub steps-smaller-in-Some-Split : goal.steps-smaller-in-Some-Split
 steps-smaller-in-Some-Split g c =
@@ -73,18 +64,9 @@ steps-smaller-in-Some-Split g c =
 
 pub steps-preserved-in-Some-Split : goal.steps-preserved-in-Some-Split
 steps-preserved-in-Some-Split g c =
-    let begun : Begun = record {
-      rows = c.args.merging.rows.now;
-      best = c.args.merging.best;
-      stem = c.args.merging.stem.now;
-      depth = c.args.depth;
-      views = map view_of c.args.area.now;
-      here = record { told = g.F.Shelf.files c.args.files.now; sources = c.args.sources.now.items; writer = c.args.writer.now };
-    } in
     let said = c.in_ok-merge_here-in-Down.ensures in
     let is = c.in-Some-Split.is ∙ ap Some c.in-Some-Split.field-0-is in
-    node-written g.F.Shelf begun c.args.files.now c.steps.files c.merge_here.new.files (map view_of c.steps.area) (map view_of c.merge_here.new.area) c.steps.sources.items c.merge_here.new.sources.items c.steps.writer c.merge_here.new.writer c.steps.splits c.push.new.self c.steps.way (Down c.in-Some-Split.split.below) c.in-Down.below
-    (Split c.in-Some-Split.split) c.steps.invariant c.in-Down.is (at-some _ is said.same) said.frame said.named (at-some _ is said.reading) (at-some _ is said.fits) (at-some _ is said.written) (c.in_ok-push-in-Some-Split.ensures.ok, refl)
+    node-written c.in-Down.below (Split c.in-Some-Split.split) c.steps.invariant c.in-Down.is (at-some _ is said.same) said.frame said.named (at-some _ is said.reading) (at-some _ is said.fits) (at-some _ is said.written) (c.in_ok-push-in-Some-Split.ensures.ok, refl)
 
 -- ---- up
 
@@ -108,20 +90,12 @@ steps-smaller g c =
 
 pub steps-preserved : goal.steps-preserved
 steps-preserved g c =
-    let here : Reached = record { told = g.F.Shelf.files c.steps.files; sources = c.steps.sources.items; writer = c.steps.writer } in
-    let begun : Begun = record {
-      rows = c.args.merging.rows.now;
-      best = c.args.merging.best;
-      stem = c.args.merging.stem.now;
-      depth = c.args.depth;
-      views = map view_of c.args.area.now;
-      here = record { told = g.F.Shelf.files c.args.files.now; sources = c.args.sources.now.items; writer = c.args.writer.now };
-    } in
-    let views = map view_of c.steps.area in
-    let gone = at-some (HasGoneOn begun.rows.program (walk_of begun) c.in-Some.split c.in-Up.cap c.take_top.new.self c.go_on.new.splits views (map view_of c.go_on.new.area)) c.in-Some-2.is (c.in_ok-next-in-Up.ensures.gone begun.best begun.stem (name_of begun.here.writer)) in
-    let at = subst (λ (splits : List (OpenSplit (Option ℤ) Capped)). IsAt begun.rows.program (walk_of begun) begun.views (whole_of begun) splits views here (Up c.in-Up.cap)) c.in-Some.ensures (subst (IsAt begun.rows.program (walk_of begun) begun.views (whole_of begun) c.steps.splits views here) c.in-Up.is c.steps.invariant.at) in
-    turns-on g.F.Shelf begun c.args.files.now c.steps.files views (map view_of c.go_on.new.area) c.steps.sources.items c.steps.writer c.steps.splits c.go_on.new.splits c.steps.way c.in-Some-2.next c.steps.invariant c.in_ok-next-in-Up.ensures.fits
-    (gone-on begun.rows.program (walk_of begun) begun.views (whole_of begun) c.in-Some.split c.take_top.new.self c.go_on.new.splits views (map view_of c.go_on.new.area) here c.in-Up.cap c.in-Some-2.next at gone)
+    let rows = c.args.merging.rows.now in
+    let best = c.args.merging.best in
+    let stem = c.args.merging.stem.now in
+    let name = name_of c.args.writer.now in
+    let gone = at-some (HasGoneOn rows.program (merging_walk rows best stem name) c.in-Some.split c.in-Up.cap c.take_top.new.self c.go_on.new.splits (map view_of c.steps.area) (map view_of c.go_on.new.area)) c.in-Some-2.is (c.in_ok-next-in-Up.ensures.gone best stem name) in
+    gone-further c.in-Some.split c.take_top.new.self c.go_on.new.splits c.in-Up.cap c.in-Some-2.next c.steps.invariant c.in-Up.is c.in-Some.ensures c.in_ok-next-in-Up.ensures.fits gone
 
 -- ---- the end of the walk
 
@@ -134,20 +108,8 @@ back-requires-clause-within g c =
 
 pub returns-in_default-clause-merged : goal.returns-in_default-clause-merged
 returns-in_default-clause-merged g c =
-    let here : Reached = record { told = g.F.Shelf.files c.steps.files; sources = c.steps.sources.items; writer = c.steps.writer } in
-    let begun : Begun = record {
-      rows = c.args.merging.rows.now;
-      best = c.args.merging.best;
-      stem = c.args.merging.stem.now;
-      depth = c.args.depth;
-      views = map view_of c.args.area.now;
-      here = record { told = g.F.Shelf.files c.args.files.now; sources = c.args.sources.now.items; writer = c.args.writer.now };
-    } in
-    let views = map view_of c.steps.area in
     let none = none-left c.take_top.result (λ top. c.steps.splits ≡ top ∷ c.take_top.new.self) c.take_top.ensures c.in_default.not-Some in
-    let at : IsAt begun.rows.program (walk_of begun) begun.views (whole_of begun) [] views here (Up c.in-Up.cap) =
-    subst (λ (splits : List (OpenSplit (Option ℤ) Capped)). IsAt begun.rows.program (walk_of begun) begun.views (whole_of begun) splits views here (Up c.in-Up.cap)) none.0 (subst (IsAt begun.rows.program (walk_of begun) begun.views (whole_of begun) c.steps.splits views here) c.in-Up.is c.steps.invariant.at) in
-    at.1.1
+    (walk-up c.in-Up.cap [] c.steps.invariant c.in-Up.is none.0).1.1
 
 pub returns-in_default-clause-as_before : goal.returns-in_default-clause-as_before
 returns-in_default-clause-as_before g c =
