@@ -1,19 +1,20 @@
-//! Rows beside those of a program: what changes from one equation to the next.
-use row_activity::{numbered, put_last};
-use row_kit::{Entry, List, Program, Row};
+//! Rows beside those of a program: what changes from one time to the next.
+use row_activity::{counted, numbered, put_last};
+use row_kit::{Domain, Entry, List, Program, Row};
 use std::alloc::{AllocError, Global};
 
 // A row that has no opposite.
 const NONE: u32 = u32::MAX;
 
-/// A program with rows before its own which all of its points keep: where two rows are an equation, as those of a state that nothing
-/// holds, the next row less this equation. It counts what comes and goes at one time alone, so a cut sees at once that a batch is
-/// wanted just then. None where a row of them breaks a bound of programs. It costs the entries of the rows.
+/// A program with rows before its own which all of its points keep: where a row counts just what another takes off, as the least and
+/// the greatest stock of a time do, the next row less this one. It counts what comes and goes at one time alone, so where nothing or
+/// little is held, a cut sees at once that a batch is wanted just then. None where a row of them breaks a bound of programs. It costs
+/// the entries of the rows.
 pub fn with_differences(alloc: Global, program: &Program) -> Result<Option<Program>, AllocError> {
     let own = program.rows.as_slice();
     let opposites = opposites_of(alloc, own)?;
     let mut rows = List::new(alloc);
-    put_differences(alloc, own, opposites.as_slice(), &mut rows)?;
+    put_differences(alloc, program, opposites.as_slice(), &mut rows)?;
     for row in own {
         rows.push(Row {
             entries: List::from_slice(alloc, row.entries.as_slice())?,
@@ -30,7 +31,7 @@ pub fn with_differences(alloc: Global, program: &Program) -> Result<Option<Progr
     ))
 }
 
-// For each row the one with which it is an equation.
+// For each row one that takes off what it counts.
 fn opposites_of(alloc: Global, rows: &[Row]) -> Result<Vec<u32>, AllocError> {
     let mut marks = Vec::with_capacity(alloc, rows.len())?;
     for number in 0..rows.len() {
@@ -41,16 +42,16 @@ fn opposites_of(alloc: Global, rows: &[Row]) -> Result<Vec<u32>, AllocError> {
     let mut opposites = vec![in alloc; NONE; rows.len()]?;
     let mut before = NONE;
     for (_, number) in marks.as_slice() {
-        note_equation(rows, &mut opposites, before, *number);
+        note_opposites(rows, &mut opposites, before, *number);
         before = *number;
     }
     Ok(opposites)
 }
 
-// Notes two rows that are an equation.
-fn note_equation(rows: &[Row], opposites: &mut [u32], one: u32, other: u32) {
+// Notes two rows of which each takes off what the other counts.
+fn note_opposites(rows: &[Row], opposites: &mut [u32], one: u32, other: u32) {
     let (first, second) = (one as usize, other as usize);
-    if first < rows.len() && second < rows.len() && are_equation(&rows[first], &rows[second]) {
+    if first < rows.len() && second < rows.len() && are_opposite(&rows[first], &rows[second]) {
         if first < opposites.len() && second < opposites.len() {
             opposites[first] = other;
             opposites[second] = one;
@@ -58,10 +59,10 @@ fn note_equation(rows: &[Row], opposites: &mut [u32], one: u32, other: u32) {
     }
 }
 
-// Whether two rows are an equation: each counts what the other takes off, and there is no room between their limits.
-fn are_equation(one: &Row, other: &Row) -> bool {
+// Whether each of two rows counts what the other takes off.
+fn are_opposite(one: &Row, other: &Row) -> bool {
     let (ones, others) = (one.entries.as_slice(), other.entries.as_slice());
-    if one.limit.saturating_add(other.limit) != 0 || ones.len() != others.len() {
+    if ones.len() != others.len() {
         return false;
     }
     for place in 0..ones.len() {
@@ -82,23 +83,38 @@ fn mark_of(entries: &[Entry]) -> i64 {
     mark
 }
 
-// Puts each row less the equation before it.
+// Puts each row less the one before it, where that has an opposite and some point of the root breaks the difference.
 fn put_differences(
     alloc: Global,
-    rows: &[Row],
+    program: &Program,
     opposites: &[u32],
     found: &mut List<Row>,
 ) -> Result<(), AllocError> {
+    let rows = program.rows.as_slice();
     for number in 1..rows.len() {
         if let Some(opposite) = opposites.get(number - 1) {
             if let Some(other) = rows.get(*opposite as usize) {
                 if let Some(row) = difference(alloc, &rows[number], other)? {
-                    found.push(row)?;
+                    if may_break(&row, program.root.as_slice()) {
+                        found.push(row)?;
+                    }
                 }
             }
         }
     }
     Ok(())
+}
+
+// Whether the greatest that a row counts over domains is more than its limit.
+fn may_break(row: &Row, domains: &[Domain]) -> bool {
+    let mut most = 0i128;
+    for entry in row.entries.as_slice() {
+        if let Some(domain) = domains.get(entry.slot as usize) {
+            let own = counted(entry.fixed, entry.per, domain.hi);
+            most = most.saturating_add(i128::from(own.max(0)));
+        }
+    }
+    most > row.limit
 }
 
 // The sum of a row and one whose slots are among its own; None where they are not.
