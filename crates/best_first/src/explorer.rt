@@ -57,7 +57,8 @@ pub fn explore(
     start: &[u8],
 ) -> Result<Explored, AllocError> {
     let tree = Tree::new(alloc, program)?;
-    explore_tree(alloc, program, choices, given, budget, tree, start, 0)
+    let explorer = Explorer::new(alloc, program, choices, given, tree, start, 0)?;
+    explorer.explored(program, budget)
 }
 
 /// Searches on from the boxes of a tree that are still to be explored, in the same way. Plans are looked for from the point `start` on;
@@ -72,28 +73,8 @@ pub fn explore_on(
     start: &[u8],
 ) -> Result<Explored, AllocError> {
     let ends = numbered(tree.nodes.len());
-    explore_tree(alloc, program, choices, given, budget, tree, start, ends)
-}
-
-// Searches the boxes of a tree; of these so many are open ends that an earlier search has left.
-fn explore_tree(
-    alloc: Global,
-    program: &Program,
-    choices: &Program,
-    given: u32,
-    budget: u32,
-    tree: Tree,
-    start: &[u8],
-    ends: u32,
-) -> Result<Explored, AllocError> {
-    let mut explorer = Explorer::new(alloc, program, choices, given, tree, start, ends)?;
-    match explorer.look_on(program, budget) {
-        Ok(()) => Ok(explorer.ended()),
-        Err(error) => {
-            let_go(explorer);
-            Err(error)
-        }
-    }
+    let explorer = Explorer::new(alloc, program, choices, given, tree, start, ends)?;
+    explorer.explored(program, budget)
 }
 
 // Lets go of a value of whatever type: so no function is proved with all parts of what it lets go.
@@ -132,6 +113,17 @@ impl<'a> Explorer<'a> {
             aims: Aims::after(ends),
             starts,
         })
+    }
+
+    // What the search has come to once the tree counts so many boxes, or none is left.
+    fn explored(mut self, program: &Program, budget: u32) -> Result<Explored, AllocError> {
+        match self.look_on(program, budget) {
+            Ok(()) => Ok(self.ended()),
+            Err(error) => {
+                let_go(self);
+                Err(error)
+            }
+        }
     }
 
     // Explores boxes until the tree counts so many, or none is left.

@@ -1,7 +1,6 @@
 //! The search of a box: its cuts, its end, and both parts of its split.
 ghost use Rattle.std.specs.Prelude.{◌≡◌, ◌≢◌, ℕ, ◌+◌, ◌<◌, ◌≤◌, List as Listed, Option, Some, None, length, false, ⊤, IfOk, IfSome, OnOk, OnErr, IsErrOf, IsTrue, true, ◌≤ℤ◌};
 ghost use Rattle.std.specs.List.{All};
-ghost use Rattle.std.specs.Option.{IsSomeAnd, option_map};
 ghost use Rattle.row_kit.specs.Area.{present};
 ghost use Rattle.row_kit.specs.Domain.{IsOpen};
 ghost use Rattle.range_prop.specs.Cuts.{AreDone, HaveRoom};
@@ -16,8 +15,9 @@ ghost use Rattle.branch_tree.specs.laws.Grounds.{StandsIn, GoesOn, LeavesOff, Is
 ghost use Rattle.branch_tree.specs.laws.Handed.{LookHanded, TailHanded, SplitHanded, PartsHanded, BoxHanded};
 ghost use Rattle.branch_tree.specs.laws.Stops.{LookStopped, TailStopped, PartsStopped, BoxStopped};
 
+use crate::advisers::SearchAdvisers;
 use crate::copies::copied_cert;
-use crate::found::{found_at, is_chosen};
+use crate::found::{found_at, is_chosen, worth_of};
 use crate::judging::judge;
 use crate::putting::{leave_open, open_box, put_found};
 use crate::reached::{Ground, Reached};
@@ -28,28 +28,11 @@ use row_kit::{Area, Found};
 use row_relax::{RowPick, Rows};
 use std::alloc::AllocError;
 
-// Who advises a search: a hinter on points, and a guide on certificates and splits.
-#[derive(Drop)]
-pub(crate) struct SearchAdvisers<'a, H, G> {
-    pub hinter: &'a mut H,
-    pub guide: &'a mut G,
-}
-
 // A split of a box: where, and the certificate that stands for its parts where they are left open.
 #[derive(Clone, Copy)]
 struct RowSplit<'a> {
     pub pick: &'a RowPick,
     pub cert: &'a Cert,
-}
-
-// The worth of a found point.
-pub(crate) fn worth_of(found: &Option<Found>) -> Option<i128>
-    ensures { result ≡ option_map (λ f. f.value) found.now }
-{
-    match found {
-        None => None,
-        Some(found) => Some(found.value),
-    }
 }
 
 // What the guide advises on a box with points.

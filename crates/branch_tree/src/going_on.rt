@@ -12,12 +12,13 @@ ghost use Rattle.branch_tree.specs.laws.Going.{CanGoOn, HandsBox, HasLeft};
 ghost use Rattle.branch_tree.specs.laws.Grounds.{program_of, rows_of, seen};
 ghost use Rattle.branch_tree.specs.laws.Stops.{BoxStopped};
 
-use crate::boxes::{SearchAdvisers, search_box};
+use crate::advisers::SearchAdvisers;
+use crate::box_place::BoxPlace;
+use crate::boxes::search_box;
 use crate::found::{better, is_chosen, tested};
 use crate::picking::splits_of;
 use crate::reached::{Ground, Reached};
 use box_advice::{Guide, Hinter};
-use dual_bound::Cert;
 use proof_tree::{Capped, NodeTaker, TakeStop};
 use range_prop::RowIndex;
 use row_kit::{Area, Found, worth};
@@ -150,13 +151,12 @@ impl<'a> GoingOn<'a> {
         self.ground.budget = self.ground.budget.saturating_add(1);
     }
 
-    /// Searches a box, which stands below so many splits, and for which a certificate is at hand, as a search does that has come to
-    /// it. The area is afterwards as before, and the taker took the items of a proof of the box. After an error it is not used again.
+    /// Searches a box that stands at this place, as a search does that has come to it. The area is afterwards as before, and the
+    /// taker took the items of a proof of the box. After an error it is not used again.
     pub fn search<H: Hinter, G: Guide, O, T: NodeTaker<Rows, O>>(
         &mut self,
         area: &mut Area,
-        depth: u32,
-        held: Cert,
+        place: BoxPlace,
         hinter: &mut H,
         guide: &mut G,
         taker: &mut T,
@@ -164,21 +164,22 @@ impl<'a> GoingOn<'a> {
     ) -> Result<Capped, TakeStop>
         requires can { (most : ℕ) × ((rows : Rows) × CanGoOn most rows self.old) }
         requires fits { Fits (program_of self.old.ground) (seen area.old) }
-        requires deep { is_deep self.old.ground.most depth (seen area.old) ≡ false }
+        requires deep { is_deep self.old.ground.most place.depth (seen area.old) ≡ false }
         requires room { HasLeft self.old }
         requires ready { T.ready taker.old out.old }
         ensures can { OnOk result ((most : ℕ) (rows : Rows) → CanGoOn most rows self.old
             → CanGoOn most rows self.new) }
         ensures as_before { OnOk result (map view_of area.new ≡ map view_of area.old) }
         ensures ready { OnOk result (T.ready taker.new out.new) }
-        ensures handed { IfOk result (λ cap. HandsBox T.took self.old depth held
-            (seen area.old) cap taker.old out.old self.new taker.new out.new) }
+        ensures handed { IfOk result (λ cap. HandsBox T.took self.old place (seen area.old) cap
+            taker.old out.old self.new taker.new out.new) }
         ensures err { OnErr result (BoxStopped T.took T.broke (rows_of self.old.ground)
             self.old.ground.floors (seen area.old) taker.old out.old taker.new out.new) }
         ensures later { T.faults out.old ≤ T.faults out.new }
         ensures failed { IsErrOf result TakeStop.Failed
             → Rose (T.faults out.old) (T.faults out.new) }
     {
+        let BoxPlace { depth, held } = place;
         self.reached.depth = depth;
         self.reached.held = Some(held);
         self.reached.changed = None;

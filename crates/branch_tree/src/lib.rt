@@ -4,6 +4,8 @@
 //! trusts no adviser: what a `Hinter` or a `Guide` says is tested before it is used.
 #![tactic(auto)]
 
+mod advisers;
+mod box_place;
 mod boxes;
 mod copies;
 mod cutting;
@@ -15,11 +17,16 @@ mod judging;
 mod picking;
 mod putting;
 mod reached;
+mod request;
 mod searchable;
 mod searching;
 
 pub use box_advice::{Advice, Guide, Hinter};
+pub use box_place::BoxPlace;
 pub use ended::{Ended, Guided, Searched};
+pub use found::{better, least_value, worth_of};
 pub use going_on::{GoingOn, is_deep};
+pub use judging::exceeds;
+pub use request::{SearchRequest, SplitRules};
 pub use searchable::{are_plain_searchable, is_searchable};
 pub use searching::{search, search_guided, search_guided_to, search_to};

@@ -4,17 +4,19 @@ ghost use Rattle.proof_tree.specs.Taker.{Rose};
 ghost use Rattle.proof_tree.specs.Tree.{tree_of};
 ghost use Rattle.proof_tree.specs.Items.{tree_items};
 ghost use Rattle.proof_tree.specs.Built.{HoldsItems};
-ghost use Rattle.branch_tree.specs.Searched.{IsExact, IsSearch, AreSearchable, IsSearchedTo, IsBrokenOff, IsWorth, ended_of};
-ghost use Rattle.row_relax.specs.Choices.{HaveImages, choices_of};
+ghost use Rattle.branch_tree.specs.Searched.{ended_of};
+ghost use Rattle.branch_tree.specs.SearchRequest.{BeganFor, CanSearch, IsExactFor, IsSearchFor, WasBrokenOff, WasSearched};
 ghost use Rattle.row_relax.specs.RowProofs.{RowTree};
-ghost use Rattle.branch_tree.specs.laws.Grounds.{IsGround, IsOffered, IsStart, program_of, rows_of, choices_at};
+ghost use Rattle.branch_tree.specs.laws.Grounds.{IsOffered, IsStart};
 
-use crate::boxes::{SearchAdvisers, search_box, worth_of};
+use crate::advisers::SearchAdvisers;
+use crate::boxes::search_box;
 use crate::copies::RowCopier;
 use crate::ended::{Ended, Guided, Searched};
-use crate::found::{better, put_least, tested};
+use crate::found::{better, put_least, tested, worth_of};
 use crate::judging::exceeds;
 use crate::reached::{Ground, Reached};
+use crate::request::SearchRequest;
 use box_advice::{Guide, Hinter};
 use proof_tree::{NodeTaker, TakeStop, TreeTaker};
 use range_prop::RowIndex;
@@ -56,40 +58,44 @@ fn begun(alloc: Global, rows: &Rows, start: &[u8]) -> Result<Reached, AllocError
     })
 }
 
-// Searches the root.
+// Searches the root, with a guide that may leave boxes open though budget is left, or may not.
 fn search_root<H: Hinter, G: Guide, O, T: NodeTaker<Rows, O>>(
-    ground: &Ground,
-    start: &[u8],
+    alloc: Global,
+    sought: &SearchRequest,
+    may_leave: bool,
     hinter: &mut H,
     guide: &mut G,
     taker: &mut T,
     out: &mut O,
 ) -> Result<Ended, TakeStop>
-    requires ground { IsGround ground.now }
-    requires images { HaveImages (rows_of ground.now) }
-    requires budget { 1 ≤ ground.now.budget }
+    requires can { CanSearch sought.now }
     requires ready { T.ready taker.old out.old }
     ensures ready { OnOk result (T.ready taker.new out.new) }
-    ensures ok { IfOk result (λ ended. IsSearchedTo T.took ground.now.most (rows_of ground.now)
-        ground.now.floors ground.now.given ground.now.budget ended taker.old out.old
+    ensures ok { IfOk result (λ ended. WasSearched T.took sought.now ended taker.old out.old
         taker.new out.new) }
-    ensures begun { IfOk result
-        (λ ended. IsWorth (choices_at ground.now) start.now ended.best) }
-    ensures exact { IfOk result
-        (λ ended. ground.now.may_leave ≡ false
-        → IsExact (program_of ground.now) ground.now.budget ended) }
-    ensures guided { IfOk result
-        (λ ended. ended.spent ≡ ground.now.budget
-        → IsExact (program_of ground.now) ground.now.budget ended) }
-    ensures err { OnErr result (IsBrokenOff T.took T.broke ground.now.most (rows_of ground.now)
-        ground.now.floors taker.old out.old taker.new out.new) }
+    ensures begun { IfOk result (λ ended. BeganFor sought.now ended.best) }
+    ensures exact { IfOk result (λ ended. may_leave ≡ false → IsExactFor sought.now ended) }
+    ensures full { IfOk result
+        (λ ended. ended.spent ≡ sought.now.budget → IsExactFor sought.now ended) }
+    ensures err { OnErr result (WasBrokenOff T.took T.broke sought.now taker.old out.old
+        taker.new out.new) }
     ensures later { T.faults out.old ≤ T.faults out.new }
     ensures failed { IsErrOf result TakeStop.Failed → Rose (T.faults out.old) (T.faults out.new) }
 {
-    let mut reached = begun(ground.alloc, ground.rows, start)?;
-    let mut area = ground.rows.root_area(ground.alloc)?;
+    let ground = Ground {
+        alloc,
+        rows: sought.rows,
+        index: RowIndex::new(alloc, &sought.rows.program)?,
+        most: sought.rules.most,
+        given: sought.rules.given,
+        floors: sought.rules.floors,
+        budget: sought.budget,
+        may_leave,
+    };
+    let mut reached = begun(alloc, sought.rows, sought.start)?;
+    let mut area = sought.rows.root_area(alloc)?;
     let mut advisers = SearchAdvisers { hinter, guide };
-    let cap = search_box(ground, &mut area, &mut reached, &mut advisers, taker, out)?;
+    let cap = search_box(&ground, &mut area, &mut reached, &mut advisers, taker, out)?;
     let left_open = exceeds(cap, worth_of(&reached.best));
     let Reached { best, spent, .. } = reached;
     Ok(Ended {
@@ -102,55 +108,32 @@ fn search_root<H: Hinter, G: Guide, O, T: NodeTaker<Rows, O>>(
 
 /// As `search_to`, with a guide that may leave boxes open though budget is left. The answer also says whether the count is
 /// exact: whether the budget was spent, or nothing is left open.
-///
-/// At most `most` splits stand one below another. Slots from the number `given` on are sums, and may be split at any value; those
-/// below it are split at 0 or in the middle alone.
-/// Where `floors` says so, a split may forget, by its certificate, points that are worth no more than the best one so far.
-/// Points are judged by the choices of the rows, and each lawful one is to have an image there. The best point is worth as much as
-/// `start`, where that is a lawful point; any other is passed over.
 pub fn search_guided_to<H: Hinter, G: Guide, O, T: NodeTaker<Rows, O>>(
     alloc: Global,
-    rows: &Rows,
-    most: u32,
-    given: u32,
-    floors: bool,
-    budget: u32,
-    start: &[u8],
+    sought: &SearchRequest,
     hinter: &mut H,
     guide: &mut G,
     taker: &mut T,
     out: &mut O,
 ) -> Result<Guided, TakeStop>
-    requires searchable { AreSearchable most rows.now }
-    requires budget { (1 ≤ budget) × (budget ≤ 100000) }
+    requires can { CanSearch sought.now }
     requires ready { T.ready taker.old out.old }
     ensures ready { OnOk result (T.ready taker.new out.new) }
-    ensures ok { IfOk result (λ guided. IsSearchedTo T.took most rows.now floors given budget
-        guided.ended taker.old out.old taker.new out.new) }
-    ensures begun { IfOk result
-        (λ guided. IsWorth (choices_of rows.now) start.now guided.ended.best) }
+    ensures ok { IfOk result (λ guided. WasSearched T.took sought.now guided.ended taker.old
+        out.old taker.new out.new) }
+    ensures begun { IfOk result (λ guided. BeganFor sought.now guided.ended.best) }
     ensures exact { IfOk result
-        (λ guided. guided.exact ≡ true → IsExact rows.now.program budget guided.ended) }
+        (λ guided. guided.exact ≡ true → IsExactFor sought.now guided.ended) }
     ensures inexact { IfOk result
         (λ guided. guided.exact ≡ false
-        → (guided.ended.left_open ≡ true) × (guided.ended.spent ≢ budget)) }
-    ensures err { OnErr result (IsBrokenOff T.took T.broke most rows.now floors taker.old out.old
+        → (guided.ended.left_open ≡ true) × (guided.ended.spent ≢ sought.now.budget)) }
+    ensures err { OnErr result (WasBrokenOff T.took T.broke sought.now taker.old out.old
         taker.new out.new) }
     ensures later { T.faults out.old ≤ T.faults out.new }
     ensures failed { IsErrOf result TakeStop.Failed → Rose (T.faults out.old) (T.faults out.new) }
 {
-    let ground = Ground {
-        alloc,
-        rows,
-        index: RowIndex::new(alloc, &rows.program)?,
-        most,
-        given,
-        floors,
-        budget,
-        may_leave: true,
-    };
-    let ended = search_root(&ground, start, hinter, guide, taker, out)?;
-    let exact = !ended.left_open || ended.spent == budget;
+    let ended = search_root(alloc, sought, true, hinter, guide, taker, out)?;
+    let exact = !ended.left_open || ended.spent == sought.budget;
     Ok(Guided { ended, exact })
 }
 
@@ -158,93 +141,48 @@ pub fn search_guided_to<H: Hinter, G: Guide, O, T: NodeTaker<Rows, O>>(
 /// a justified proof that covers the root, whose numbers the answer tells. It counts at most as many boxes as the budget, and
 /// leaves a box open only where it counted just as many: the guide is not asked which to leave. After an error the taker took the first
 /// items of some proof.
-///
-/// At most `most` splits stand one below another. Slots from the number `given` on are sums, and may be split at any value; those
-/// below it are split at 0 or in the middle alone.
-/// Where `floors` says so, a split may forget, by its certificate, points that are worth no more than the best one so far.
-/// Points are judged by the choices of the rows, and each lawful one is to have an image there. The best point is worth as much as
-/// `start`, where that is a lawful point; any other is passed over.
 pub fn search_to<H: Hinter, G: Guide, O, T: NodeTaker<Rows, O>>(
     alloc: Global,
-    rows: &Rows,
-    most: u32,
-    given: u32,
-    floors: bool,
-    budget: u32,
-    start: &[u8],
+    sought: &SearchRequest,
     hinter: &mut H,
     guide: &mut G,
     taker: &mut T,
     out: &mut O,
 ) -> Result<Ended, TakeStop>
-    requires searchable { AreSearchable most rows.now }
-    requires budget { (1 ≤ budget) × (budget ≤ 100000) }
+    requires can { CanSearch sought.now }
     requires ready { T.ready taker.old out.old }
     ensures ready { OnOk result (T.ready taker.new out.new) }
-    ensures ok { IfOk result (λ ended. IsSearchedTo T.took most rows.now floors given budget
-        ended taker.old out.old taker.new out.new) }
-    ensures begun { IfOk result (λ ended. IsWorth (choices_of rows.now) start.now ended.best) }
-    ensures exact { IfOk result (IsExact rows.now.program budget) }
-    ensures err { OnErr result (IsBrokenOff T.took T.broke most rows.now floors taker.old out.old
+    ensures ok { IfOk result (λ ended. WasSearched T.took sought.now ended taker.old out.old
+        taker.new out.new) }
+    ensures begun { IfOk result (λ ended. BeganFor sought.now ended.best) }
+    ensures exact { IfOk result (IsExactFor sought.now) }
+    ensures err { OnErr result (WasBrokenOff T.took T.broke sought.now taker.old out.old
         taker.new out.new) }
     ensures later { T.faults out.old ≤ T.faults out.new }
     ensures failed { IsErrOf result TakeStop.Failed → Rose (T.faults out.old) (T.faults out.new) }
 {
-    let ground = Ground {
-        alloc,
-        rows,
-        index: RowIndex::new(alloc, &rows.program)?,
-        most,
-        given,
-        floors,
-        budget,
-        may_leave: false,
-    };
-    search_root(&ground, start, hinter, guide, taker, out)
+    search_root(alloc, sought, false, hinter, guide, taker, out)
 }
 
 /// As `search`, with a guide that may leave boxes open though budget is left. The answer also says whether the count is exact.
-///
-/// At most `most` splits stand one below another. Slots from the number `given` on are sums, and may be split at any value; those
-/// below it are split at 0 or in the middle alone.
-/// Where `floors` says so, a split may forget, by its certificate, points that are worth no more than the best one so far.
-/// Points are judged by the choices of the rows, and each lawful one is to have an image there. The best point is worth as much as
-/// `start`, where that is a lawful point; any other is passed over.
 pub fn search_guided<H: Hinter, G: Guide>(
     alloc: Global,
-    rows: &Rows,
-    most: u32,
-    given: u32,
-    floors: bool,
-    budget: u32,
-    start: &[u8],
+    sought: &SearchRequest,
     hinter: &mut H,
     guide: &mut G,
 ) -> Result<(Searched, bool), AllocError>
-    requires searchable { AreSearchable most rows.now }
-    requires budget { (1 ≤ budget) × (budget ≤ 100000) }
-    ensures ok { IfOk result (λ found. IsSearch most rows.now floors given budget
-        (tree_of found.0.tree) (ended_of found.0)) }
-    ensures begun { IfOk result (λ found. IsWorth (choices_of rows.now) start.now found.0.best) }
+    requires { CanSearch sought.now }
+    ensures ok { IfOk result
+        (λ found. IsSearchFor sought.now (ended_of found.0) (tree_of found.0.tree)) }
+    ensures begun { IfOk result (λ found. BeganFor sought.now found.0.best) }
     ensures exact { IfOk result
-        (λ found. found.1 ≡ true → IsExact rows.now.program budget (ended_of found.0)) }
+        (λ found. found.1 ≡ true → IsExactFor sought.now (ended_of found.0)) }
     ensures inexact { IfOk result
-        (λ found. found.1 ≡ false → (found.0.left_open ≡ true) × (found.0.spent ≢ budget)) }
+        (λ found. found.1 ≡ false
+        → (found.0.left_open ≡ true) × (found.0.spent ≢ sought.now.budget)) }
 {
     let mut taker = TreeTaker::new(alloc, RowCopier);
-    match search_guided_to(
-        alloc,
-        rows,
-        most,
-        given,
-        floors,
-        budget,
-        start,
-        hinter,
-        guide,
-        &mut taker,
-        &mut (),
-    ) {
+    match search_guided_to(alloc, sought, hinter, guide, &mut taker, &mut ()) {
         Ok(guided) => Ok((with_tree(guided.ended, taker), guided.exact)),
         Err(_) => Err(AllocError),
     }
@@ -252,45 +190,20 @@ pub fn search_guided<H: Hinter, G: Guide>(
 
 /// Searches the root by branch and bound, and builds the proof: a justified one that covers the root, whose numbers the answer
 /// tells. It counts at most as many boxes as the budget, and leaves a box open only where it counted just as many.
-///
-/// At most `most` splits stand one below another. Slots from the number `given` on are sums, and may be split at any value; those
-/// below it are split at 0 or in the middle alone.
-/// Where `floors` says so, a split may forget, by its certificate, points that are worth no more than the best one so far.
-/// Points are judged by the choices of the rows, and each lawful one is to have an image there. The best point is worth as much as
-/// `start`, where that is a lawful point; any other is passed over.
 pub fn search<H: Hinter, G: Guide>(
     alloc: Global,
-    rows: &Rows,
-    most: u32,
-    given: u32,
-    floors: bool,
-    budget: u32,
-    start: &[u8],
+    sought: &SearchRequest,
     hinter: &mut H,
     guide: &mut G,
 ) -> Result<Searched, AllocError>
-    requires searchable { AreSearchable most rows.now }
-    requires budget { (1 ≤ budget) × (budget ≤ 100000) }
-    ensures ok { IfOk result (λ searched. IsSearch most rows.now floors given budget
-        (tree_of searched.tree) (ended_of searched)) }
-    ensures begun { IfOk result
-        (λ searched. IsWorth (choices_of rows.now) start.now searched.best) }
-    ensures exact { IfOk result (λ searched. IsExact rows.now.program budget (ended_of searched)) }
+    requires { CanSearch sought.now }
+    ensures ok { IfOk result
+        (λ searched. IsSearchFor sought.now (ended_of searched) (tree_of searched.tree)) }
+    ensures begun { IfOk result (λ searched. BeganFor sought.now searched.best) }
+    ensures exact { IfOk result (λ searched. IsExactFor sought.now (ended_of searched)) }
 {
     let mut taker = TreeTaker::new(alloc, RowCopier);
-    match search_to(
-        alloc,
-        rows,
-        most,
-        given,
-        floors,
-        budget,
-        start,
-        hinter,
-        guide,
-        &mut taker,
-        &mut (),
-    ) {
+    match search_to(alloc, sought, hinter, guide, &mut taker, &mut ()) {
         Ok(ended) => Ok(with_tree(ended, taker)),
         Err(_) => Err(AllocError),
     }

@@ -36,7 +36,7 @@ pub fn show<A: Advisers>(alloc: Global, seed: u32) -> Result<Reply, AllocError>
 {
     let plant = read_made(alloc, seed)?;
     let mut files = FixedShelf::new(alloc);
-    match solve_to::<A, _>(alloc, &plant, BOXES, &mut files, "log") {
+    match solve_to::<A, _>(alloc, &plant, &[], BOXES, &mut files, "log") {
         Ok(outcome) => {
             let line = check_line(alloc, &plant, &mut files, "log")?;
             let text = demo_text(alloc, seed, &plant, &outcome.answer, &line)?;

@@ -83,7 +83,7 @@ fn least_at<A: Advisers>(
     ensures { IfOk result (IsHorizonSettled plant.now budget (λ _. None) horizon) }
 {
     let short = plant_at(alloc, plant, horizon)?;
-    let Outcome { answer, .. } = plan::<A>(alloc, &short, budget)?;
+    let Outcome { answer, .. } = plan::<A>(alloc, &short, &[], budget)?;
     Ok(settled_within(horizon, answer))
 }
 
@@ -115,7 +115,14 @@ fn log_at<A: Advisers, F: Shelf>(
 {
     let short = plant_at(alloc, plant, horizon)?;
     let name = log_name(alloc, stem, horizon)?;
-    let Outcome { answer, .. } = solve_to::<A, _>(alloc, &short, budget, files, name.as_str())?;
+    let Outcome { answer, .. } = solve_to::<A, _>(
+        alloc,
+        &short,
+        &[],
+        budget,
+        files,
+        name.as_str(),
+    )?;
     Ok(settled_within(horizon, answer))
 }
 

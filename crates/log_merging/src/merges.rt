@@ -15,16 +15,26 @@ ghost use Rattle.merge_checks.specs.laws.Checked.{AreCheckedTo, AreKnownTo};
 
 use crate::merged::Merged;
 use crate::writing::write_merged;
-use log_parts::{JoinStop, joined};
-use log_resuming::cap_of;
+use log_parts::joined;
+use log_stops::JoinStop;
 use merge_checks::{Checked, Logs, check_logs};
 use merge_ends::{Work, in_order, is_same_claim, suits};
+use opened_logs::cap_of;
 use plant_check::check_stream;
 use proof_log::Claim;
 use std::alloc::Global;
 use stn_edge::Shelf;
 use stn_model::Plant;
 use valid_log::LogVerdict;
+
+// What the logs that are merged claim.
+#[derive(Drop)]
+struct Claimed {
+    // The best of their plans, and the greatest of their caps.
+    best: Claim,
+    // One of them leaves nothing open, or none.
+    settled: bool,
+}
 
 /// Merges logs of a plant, so many of a stem, of any version: checks them in the order of their numbers, writes the log of the merged
 /// proof with the merged claim, and checks that. It has the head of the logs, which declare the same in the same order: it is of version
@@ -116,14 +126,17 @@ fn merge_logs<F: Shelf>(
         fronts,
         claims,
     } = logs;
-    let best = joined(claims);
+    let claimed = Claimed {
+        best: joined(claims),
+        settled,
+    };
     let work = Work {
         first: &first,
         newest,
         fronts: fronts.as_slice(),
         order: order.as_slice(),
     };
-    write_checked(alloc, plant, files, stem, out, work, best, settled)
+    write_checked(alloc, plant, files, stem, out, work, claimed)
 }
 
 // Writes the merged log and has it checked; its claim. It owns nothing of the logs, so that its ways out let go of the claim alone.
@@ -134,8 +147,7 @@ fn write_checked<F: Shelf>(
     stem: &str,
     out: &str,
     work: Work,
-    best: Claim,
-    settled: bool,
+    claimed: Claimed,
 ) -> Result<Option<Claim>, JoinStop>
     requires sound { Sound plant.now }
     requires order { All (λ number. number < length work.fronts.now) work.order.now }
@@ -146,7 +158,8 @@ fn write_checked<F: Shelf>(
     requires apart { (number : ℕ) → number < length work.fronts.now
         → out.now ≢ log_name stem.now number }
     ensures checked { IfOk result (λ claim. IfSome claim (HasWrittenChecked plant.now work.entry
-        best settled stem.now out.now (F.files files.old) (F.files files.new))) }
+        claimed.best claimed.settled stem.now out.now (F.files files.old)
+        (F.files files.new))) }
     ensures says { IfOk result (λ claim. IfSome claim (SaysOfPlans plant.now)) }
     ensures frame { ReadsAndWritesOne F.Shelf out.now files.old files.new }
     ensures read_fault { result ≡ Err JoinStop.ReadFault
@@ -154,6 +167,7 @@ fn write_checked<F: Shelf>(
     ensures write_fault { result ≡ Err JoinStop.WriteFault
         → Rose (F.write_faults files.old) (F.write_faults files.new) }
 {
+    let Claimed { best, settled } = claimed;
     let greatest = cap_of(&best);
     let Some(claim) = write_merged(alloc, plant, files, stem, out, work, best)? else {
         return Ok(None);

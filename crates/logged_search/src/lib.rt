@@ -6,11 +6,8 @@
 
 mod item_dropper;
 mod logging;
-mod request;
 mod searching;
-mod split_rules;
 
+pub use branch_tree::{SearchRequest, SplitRules};
 pub use logging::{Logged, search_logged};
-pub use request::SearchRequest;
 pub use searching::{search_built, search_only};
-pub use split_rules::SplitRules;

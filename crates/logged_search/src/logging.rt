@@ -6,15 +6,15 @@ ghost use Rattle.store_frames.specs.Frames.{WritesOne};
 ghost use Rattle.row_kit.specs.Domain.{IsOpen};
 ghost use Rattle.row_relax.specs.Choices.{HaveImages, choices_of};
 ghost use Rattle.branch_tree.specs.Searched.{IsWorth};
+ghost use Rattle.branch_tree.specs.SearchRequest.{BeganFor, CanSearch, IsExactFor, IsSearchFor};
 ghost use Rattle.plan_told.specs.Ended.{IsEmptyRoot, IsEnding};
 ghost use Rattle.proof_log.specs.Writer.{KeepsOthers, writing};
 ghost use Rattle.logged_search.specs.Logging.{HasFewSplits, IsLogged, LeavesBegun, stored};
-ghost use Rattle.logged_search.specs.laws.SearchRequest.{BeganFor, CanSearch, IsExactFor, IsLoggedFor, IsSearchFor};
+ghost use Rattle.logged_search.specs.laws.SearchRequest.{IsLoggedFor};
 
-use crate::request::SearchRequest;
 use crate::searching::{empty_end, put_search};
 use box_advice::Advisers;
-use branch_tree::{Ended, is_searchable};
+use branch_tree::{Ended, SearchRequest, is_searchable};
 use log_lines::{Line, put_line};
 use proof_log::LogWriter;
 use proof_tree::TakeStop;

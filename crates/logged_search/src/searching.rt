@@ -3,17 +3,16 @@ ghost use Rattle.std.specs.Prelude.{◌≡◌, ◌≤◌, IfOk, IsErrOf, OnErr, 
 ghost use Rattle.proof_tree.specs.Taker.{Rose};
 ghost use Rattle.proof_tree.specs.Tree.{tree_of};
 ghost use Rattle.row_relax.specs.Choices.{HaveImages, choices_of};
-ghost use Rattle.branch_tree.specs.Searched.{AreSearchable, IsBrokenOff, IsWorth, ended_of};
+ghost use Rattle.branch_tree.specs.Searched.{AreSearchable, IsWorth, ended_of};
+ghost use Rattle.branch_tree.specs.SearchRequest.{BeganFor, CanSearch, IsExactFor, WasBrokenOff, WasSearched};
 ghost use Rattle.plan_told.specs.Ended.{IsSearchOf, IsSearched, empty_end};
 ghost use Rattle.logged_search.specs.Logging.{HasFewSplits};
-ghost use Rattle.logged_search.specs.laws.SearchRequest.{BeganFor, CanSearch, IsEndingFor, IsExactFor, WasSearched};
+ghost use Rattle.logged_search.specs.laws.SearchRequest.{IsEndingFor};
 
 use crate::item_dropper::ItemDropper;
-use crate::request::SearchRequest;
-use crate::split_rules::SplitRules;
 use advised_search::{build_advised, build_hinted, search_advised, search_hinted};
 use box_advice::Advisers;
-use branch_tree::{Ended, Guided, Searched, is_searchable};
+use branch_tree::{Ended, Guided, SearchRequest, Searched, SplitRules, is_searchable};
 use proof_tree::{Capped, NodeTaker, TakeStop};
 use row_relax::Rows;
 use std::alloc::{AllocError, Global};
@@ -94,30 +93,15 @@ pub(crate) fn put_search<A: Advisers, O, T: NodeTaker<Rows, O>>(
     ensures begun { IfOk result (λ found. BeganFor sought.now found.ended.best) }
     ensures exact { IfOk result (λ found. found.exact ≡ true → IsExactFor sought.now found.ended) }
     ensures unguided { IfOk result (λ found. guided ≡ false → found.exact ≡ true) }
-    ensures err { OnErr result (IsBrokenOff T.took T.broke sought.now.rules.most
-        sought.now.rows.now sought.now.rules.floors taker.old out.old taker.new out.new) }
+    ensures err { OnErr result (WasBrokenOff T.took T.broke sought.now taker.old out.old
+        taker.new out.new) }
     ensures later { T.faults out.old ≤ T.faults out.new }
     ensures failed { IsErrOf result TakeStop.Failed → Rose (T.faults out.old) (T.faults out.new) }
 {
-    let SearchRequest {
-        rows,
-        rules,
-        budget,
-        start,
-    } = *sought;
-    let SplitRules {
-        given,
-        floors,
-        most,
-    } = rules;
     if guided {
-        return search_advised::<A, _, _>(
-            alloc, rows, most, given, floors, budget, start, taker, out,
-        );
+        return search_advised::<A, _, _>(alloc, sought, taker, out);
     }
-    let ended = search_hinted::<A, _, _>(
-        alloc, rows, most, given, floors, budget, start, taker, out,
-    )?;
+    let ended = search_hinted::<A, _, _>(alloc, sought, taker, out)?;
     Ok(Guided { ended, exact: true })
 }
 
@@ -133,14 +117,15 @@ pub fn search_built<A: Advisers>(
     ensures { IfOk result (λ searched. IsSearchOf rules.most rows.now rules.floors rules.given budget
         (ended_of searched) (tree_of searched.tree)) }
 {
-    let SplitRules {
-        given,
-        floors,
-        most,
-    } = rules;
-    let (searched, exact) = build_advised::<A>(alloc, rows, most, given, floors, budget, &[])?;
+    let sought = SearchRequest {
+        rows,
+        rules,
+        budget,
+        start: &[],
+    };
+    let (searched, exact) = build_advised::<A>(alloc, &sought)?;
     if exact {
         return Ok(searched);
     }
-    build_hinted::<A>(alloc, rows, most, given, floors, budget, &[])
+    build_hinted::<A>(alloc, &sought)
 }

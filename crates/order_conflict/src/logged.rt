@@ -3,8 +3,6 @@ ghost use Rattle.std.specs.Prelude.{◌≡◌, ◌≤◌, Err, IsTrue, IfOk, OnE
 ghost use Rattle.stn_edge.specs.Count.{Rose};
 ghost use Rattle.stn_edge.specs.Files.{OthersStay};
 ghost use Rattle.stn_model.specs.Sound.{Sound};
-ghost use Rattle.stn_model.specs.Best.{NoPlan};
-ghost use Rattle.order_conflict.specs.Conflict.{AreMarks};
 ghost use Rattle.order_conflict.specs.Logged.{proved, IsLogOf, LeavesStepLog};
 
 use crate::answer::ConflictAnswer;
@@ -44,45 +42,17 @@ pub fn conflict_to<A: Advisers, F: Shelf>(
         → Rose (F.write_faults files.old) (F.write_faults files.new) }
 {
     let said = conflict::<A>(alloc, plant, budget)?;
-    match said {
-        ConflictAnswer::Among { marks } => {
-            prove_marks::<A, F>(alloc, plant, budget, files, name, marks)
+    let marks = match said {
+        ConflictAnswer::Among { marks } => marks,
+        ConflictAnswer::Planned { profit, plan } => {
+            return Ok(ConflictAnswer::Planned { profit, plan });
         }
-        ConflictAnswer::Planned { profit, plan } => Ok(ConflictAnswer::Planned { profit, plan }),
-        ConflictAnswer::Unsettled => Ok(ConflictAnswer::Unsettled),
-        ConflictAnswer::Unproved { marks } => Ok(ConflictAnswer::Unproved { marks }),
-    }
-}
-
-// Plans the plant with the deliveries that are left alone, and writes the log.
-fn prove_marks<A: Advisers, F: Shelf>(
-    alloc: Global,
-    plant: &Plant,
-    budget: u32,
-    files: &mut F,
-    name: &str,
-    marks: Vec<Mark>,
-) -> Result<ConflictAnswer, Stop>
-    requires sound { Sound plant.now }
-    requires budget { (1 ≤ budget) × (budget ≤ 100000) }
-    requires allowed { IsTrue (F.may_write files.old name.now) }
-    requires marks { AreMarks plant.now budget marks.items }
-    requires none { NoPlan plant.now }
-    ensures log { IfOk result (IsLogOf plant.now budget name.now
-        (F.files files.old) (F.files files.new)) }
-    ensures err { OnErr result (LeavesStepLog plant.now budget name.now
-        (F.files files.old) (F.files files.new)) }
-    ensures others { OthersStay name.now (F.files files.old) (F.files files.new) }
-    ensures readable { F.may_read files.new ≡ F.may_read files.old }
-    ensures writable { F.may_write files.new ≡ F.may_write files.old }
-    ensures no_read { F.read_faults files.new ≡ F.read_faults files.old }
-    ensures later { F.write_faults files.old ≤ F.write_faults files.new }
-    ensures failed { result ≡ Err Stop.Failed
-        → Rose (F.write_faults files.old) (F.write_faults files.new) }
-{
+        ConflictAnswer::Unsettled => return Ok(ConflictAnswer::Unsettled),
+        ConflictAnswer::Unproved { marks } => return Ok(ConflictAnswer::Unproved { marks }),
+    };
     let kept = kept_of(alloc, marks.as_slice())?;
     let fewer = alone(alloc, plant, kept.as_slice())?;
-    let Outcome { answer, .. } = solve_to::<A, F>(alloc, &fewer, budget, files, name)?;
+    let Outcome { answer, .. } = solve_to::<A, F>(alloc, &fewer, &[], budget, files, name)?;
     Ok(proved(answer, marks))
 }
 

@@ -32,7 +32,7 @@ pub fn conflict<A: Advisers>(
     requires budget { (1 ≤ budget) × (budget ≤ 100000) }
     ensures { IfOk result (IsConflict plant.now budget) }
 {
-    let Outcome { answer, .. } = plan::<A>(alloc, plant, budget)?;
+    let Outcome { answer, .. } = plan::<A>(alloc, plant, &[], budget)?;
     match planned(answer) {
         Some(said) => Ok(said),
         None => {

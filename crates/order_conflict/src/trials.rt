@@ -29,7 +29,7 @@ pub fn trial<A: Advisers>(
 {
     let kept = kept_without(alloc, marks, place)?;
     let fewer = alone(alloc, plant, kept.as_slice())?;
-    let Outcome { answer, .. } = plan::<A>(alloc, &fewer, budget)?;
+    let Outcome { answer, .. } = plan::<A>(alloc, &fewer, &[], budget)?;
     Ok(mark_of(&answer))
 }
 

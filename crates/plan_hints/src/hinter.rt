@@ -3,6 +3,7 @@ use crate::accounts::Accounts;
 use crate::bounds::NONE;
 use crate::diving::{Dive, ONE};
 use crate::finder::Finder;
+use crate::mending::Mender;
 use crate::small_search::{Effort, Picking};
 use box_advice::Hinter;
 use dual_simplex::Amount;
@@ -29,6 +30,7 @@ pub struct PlanHinter {
 #[derive(Drop)]
 struct Looker {
     finder: Finder,
+    mender: Mender,
     walk: Walk,
     seen: Vec<Amount>,
     accounts: Accounts,
@@ -43,6 +45,14 @@ const FIRST_BOXES: u32 = 20;
 const MOST_FIRST: u32 = 200;
 
 const FIRST_WORK: u64 = 400_000_000;
+
+// The work of mending rows in a box, and the ways to do so at the first one.
+const MEND_WORK: u64 = 4_000_000_000;
+
+const MOST_WAYS: u32 = 24;
+
+// The slots up to which a first plan is searched for by bounds before rows are mended.
+const FEW_SLOTS: usize = 512;
 
 // The boxes of a search in a neighbourhood before searches grow, the times that they grow at most, and the work of one.
 const MOST_SMALL: u32 = 40;
@@ -109,6 +119,7 @@ impl Looker {
     fn new(alloc: Global, program: &Program, box_slots: usize) -> Result<Looker, AllocError> {
         Ok(Looker {
             finder: Finder::new(alloc, program)?,
+            mender: Mender::new(alloc, program)?,
             walk: Walk::new(program),
             seen: vec![in alloc; NONE; program.root.len()]?,
             accounts: Accounts::new(program, box_slots),
@@ -198,6 +209,32 @@ impl Looker {
         }
     }
 
+    // Looks for a first plan row by row, where none is known and there is work left for one: in many ways at the first box, and at
+    // later ones in one more.
+    fn mend(&mut self, program: &Program) {
+        if !self.accounts.allow_first(self.finder.work) {
+            return;
+        }
+        let limit = self.finder.work.saturating_add(MEND_WORK);
+        let ways = if self.boxes <= 1 { MOST_WAYS } else { 1 };
+        for _ in 0..ways {
+            if self.finder.plans.kept.worth.is_none() {
+                self.mender.search(&mut self.finder, program, limit);
+            }
+        }
+    }
+
+    // Looks for a first plan: where one bound takes all the work of a search, row by row first.
+    fn look_for_first(&mut self, program: &Program) {
+        if program.root.len() > FEW_SLOTS {
+            self.mend(program);
+            self.find_first(program);
+        } else {
+            self.find_first(program);
+            self.mend(program);
+        }
+    }
+
     // Searches neighbourhoods of the best plan, as long as there is work left for them.
     fn search_hoods(&mut self, program: &Program) {
         if !self.may_search() {
@@ -255,7 +292,7 @@ impl Looker {
         self.take_left(program, point);
         if self.boxes <= FIRST_BOXES || self.boxes % 16 == 0 {
             self.dive(program, area);
-            self.find_first(program);
+            self.look_for_first(program);
         }
         if self.finder.plans.kept.worth != before {
             self.walk.begin_anew();

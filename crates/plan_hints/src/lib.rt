@@ -8,6 +8,7 @@ mod bounds;
 mod diving;
 mod finder;
 mod hinter;
+mod mending;
 mod neighbourhoods;
 mod small_search;
 

@@ -64,12 +64,29 @@ impl Plan {
         }
     }
 
-    // What is left of a row.
-    fn room(&self, tables: &Tables, row: u32) -> i64 {
+    /// What is left of a row.
+    pub fn room(&self, tables: &Tables, row: u32) -> i64 {
         match self.used.get(row as usize) {
             None => 0,
             Some(used) => tables.limit(row).wrapping_sub(*used),
         }
+    }
+
+    /// How many rows a value of a slot mends, less those that it breaks.
+    pub fn gain(&self, tables: &Tables, slot: u32, value: u8) -> i64 {
+        let own = self.value(slot);
+        let mut gain = 0i64;
+        for part in tables.parts_of(slot) {
+            let room = self.room(tables, part.row);
+            let change = part.counted(value).wrapping_sub(part.counted(own));
+            let left = room.wrapping_sub(change);
+            if room >= 0 && left < 0 {
+                gain = gain.wrapping_sub(1);
+            } else if room < 0 && left >= 0 {
+                gain = gain.wrapping_add(1);
+            }
+        }
+        gain
     }
 
     /// Whether it keeps all rows.

@@ -5,7 +5,6 @@ mod improving;
 mod part_solving;
 mod planning;
 mod planning_on;
-mod plant_part;
 mod replanning;
 mod solving;
 

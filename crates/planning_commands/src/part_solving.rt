@@ -15,7 +15,6 @@ ghost use Rattle.planning_commands.specs.Frames.{OnlyWrites};
 ghost use Rattle.planning_commands.specs.PartSolving.{HoldsPart, LeavesPart, PartSolved};
 
 use crate::planning::plan_part;
-use crate::plant_part::PlantPart;
 use answer_texts::{has_slots, refused_levels};
 use box_advice::Advisers;
 use command_replies::{Reply, Stopped, plant_in};
@@ -25,6 +24,7 @@ use row_set::plant_root;
 use std::alloc::Global;
 use stn_edge::Shelf;
 use stn_model::Plant;
+use stn_solve::PlantPart;
 
 /// Plans a part of the plant in a file, with at most so many boxes, and writes the log of the proof to another. No file is written
 /// but the log, and none before the plant is read and found to have a slot for each level.
@@ -86,35 +86,9 @@ fn solve_part<A: Advisers, F: Shelf>(
     ensures others { OthersStay log.now (F.files files.old) (F.files files.new) }
     ensures kept { OnlyWrites F.Shelf files.old files.new }
 {
-    if has_slots(alloc, plant, part.levels)? {
-        log_rows_of_part::<A, _>(alloc, files, plant, part, budget, log)
-    } else {
-        Ok(refused_levels(alloc)?)
+    if !has_slots(alloc, plant, part.levels)? {
+        return Ok(refused_levels(alloc)?);
     }
-}
-
-// The answer where the plant has a slot for each level.
-fn log_rows_of_part<A: Advisers, F: Shelf>(
-    alloc: Global,
-    files: &mut F,
-    plant: &Plant,
-    part: Part,
-    budget: Budget,
-    log: &str,
-) -> Result<Reply, Stopped>
-    requires sound { Sound plant.now }
-    requires enough { part.levels.number ≤ length (slots plant.now) }
-    requires allowed { IsTrue (F.may_write files.old log.now) }
-    ensures answer { IfOk result (λ reply. PartSolved budget.boxes plant.now part.levels.number
-        part.number (bytes_in log.now (F.files files.new)) reply.status reply.text.items) }
-    ensures none { IfRefused result (λ _. ⊥) }
-    ensures no_fault { result ≢ Err Stopped.ReadFault }
-    ensures write_fault { HadWriteFault F.Shelf files.old files.new result }
-    ensures left { LeavesPart plant.now part.levels.number part.number log.now
-        (F.files files.old) (F.files files.new) }
-    ensures others { OthersStay log.now (F.files files.old) (F.files files.new) }
-    ensures kept { OnlyWrites F.Shelf files.old files.new }
-{
     let levels = part.levels.number;
     let rows = part_rows(alloc, plant, levels, part.number)?;
     let judged = plant_root(alloc, plant)?;

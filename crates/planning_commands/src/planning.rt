@@ -22,7 +22,6 @@ ghost use Rattle.planning_commands.specs.NamedLog.{LogLeft, told_log};
 ghost use Rattle.planning_commands.specs.Replanning.{IsBegunOutcome, LeavesPartLog};
 ghost use Rattle.planning_commands.specs.Solving.{LeavesPlant};
 
-use crate::plant_part::PlantPart;
 use answer_texts::{counted_since, in_money, planned};
 use box_advice::Advisers;
 use command_replies::{Reply, Stopped};
@@ -31,7 +30,7 @@ use row_set::{plant_root, program_of};
 use std::alloc::{AllocError, Global};
 use stn_edge::{Shelf, Stop};
 use stn_model::{Outcome, Plant, Start};
-use stn_solve::{plan_rows, point_of, solve_rows_to};
+use stn_solve::{PlantPart, plan_rows, point_of, solve_rows_to};
 
 /// The answer of planning a plant, beginning with a plan, of whose starts those are counted that have changed since a period, if one
 /// is given. The log of the proof is written where it is named.
@@ -138,26 +137,16 @@ fn outcome_of<A: Advisers, F: Shelf>(
     ensures others { OthersLeft (named_log log.entry) (F.files files.old) (F.files files.new) }
     ensures kept { OnlyWrites F.Shelf files.old files.new }
 {
-    let PlantPart {
-        plant,
-        program,
-        judged,
-        levels,
-    } = part;
     let Some(name) = log else {
+        let PlantPart {
+            plant,
+            program,
+            judged,
+            levels,
+        } = part;
         return Ok(plan_rows::<A>(alloc, plant, program, judged, levels, budget.boxes, point)?);
     };
-    match solve_rows_to::<A, _>(
-        alloc,
-        plant,
-        program,
-        judged,
-        levels,
-        budget.boxes,
-        point,
-        files,
-        name,
-    ) {
+    match solve_rows_to::<A, _>(alloc, part, budget.boxes, point, files, name) {
         Ok(outcome) => Ok(outcome),
         Err(Stop::Failed) => Err(Stopped::WriteFault),
         Err(Stop::Memory) => Err(Stopped::Memory),

@@ -9,7 +9,6 @@ ghost use Rattle.planning_commands.specs.PlanningOn.{CanGoOn, LeftOn};
 ghost use Rattle.planning_commands.specs.Replanning.{Replanned};
 
 use crate::planning::plan_part;
-use crate::plant_part::PlantPart;
 use answer_texts::broken;
 use box_advice::Advisers;
 use command_replies::{Reply, Stopped};
@@ -19,6 +18,7 @@ use row_kit::List;
 use std::alloc::Global;
 use stn_edge::Shelf;
 use stn_model::{Plant, Start};
+use stn_solve::PlantPart;
 
 /// The answer of planning on from the starts of a plan before a period. The log of the proof is written where it is named.
 pub fn replan<A: Advisers, F: Shelf>(

@@ -1,9 +1,13 @@
 //! Searches with a hinter that counts, a taker that refuses, and a guide that dives.
-ghost use Rattle.std.specs.Prelude.{IfSome};
+ghost use Rattle.std.specs.Prelude.{IfSome, ◌≤◌};
 ghost use Rattle.branch_tree.specs.Searched.{AreSearchable};
+ghost use Rattle.branch_tree.specs.SearchRequest.{CanSearch};
 
 use crate::tables::{CHAIN, CHAIN_ROWS, WIDE, over_rows, program};
-use branch_tree::{Advice, Guide, Hinter, are_plain_searchable, search_guided, search_to};
+use branch_tree::{
+    Advice, Guide, Hinter, SearchRequest, SplitRules, are_plain_searchable, search_guided,
+    search_to,
+};
 use dual_bound::{Cert, Mult};
 use proof_tree::{Capped, Item, NodeTaker, TakeStop};
 use row_kit::{Area, Entry, List, Program, Row};
@@ -92,9 +96,22 @@ impl NodeTaker<Rows, ()> for Cutoff {
     }
 }
 
-// The number of slots, none of which is a sum's.
-fn slot_count(rows: &Rows) -> u32 {
-    rows.program.root.len() as u32
+// A search of rows, none of whose slots is a sum's, that counts at most so many boxes.
+fn sought_in(rows: &Rows, budget: u32) -> SearchRequest
+    requires searchable { AreSearchable 4608 rows.now }
+    requires budget { (1 ≤ budget) × (budget ≤ 100000) }
+    ensures { CanSearch result }
+{
+    SearchRequest {
+        rows,
+        rules: SplitRules {
+            given: rows.program.root.len() as u32,
+            floors: false,
+            most: MOST_SPLITS,
+        },
+        budget,
+        start: &[],
+    }
 }
 
 // The rows of a program that can be searched.
@@ -121,14 +138,10 @@ fn searched(alloc: Global, rows: &Rows, left: u32) -> (Option<TakeStop>, u32)
 {
     let mut hinter = Silent { asked: 0 };
     let mut taker = Cutoff { left };
+    let sought = sought_in(rows, 7);
     let ended = search_to(
         alloc,
-        rows,
-        MOST_SPLITS,
-        slot_count(rows),
-        false,
-        7,
-        &[],
+        &sought,
         &mut hinter,
         &mut PlainGuide,
         &mut taker,
@@ -176,18 +189,8 @@ fn dived(alloc: Global, rows: &Rows) -> Result<(bool, Capped, u32), AllocError>
     requires { AreSearchable 4608 rows.now }
 {
     let mut hinter = Silent { asked: 0 };
-    let given = slot_count(rows);
-    let (found, exact) = search_guided(
-        alloc,
-        rows,
-        MOST_SPLITS,
-        given,
-        false,
-        100_000,
-        &[],
-        &mut hinter,
-        &mut Diver,
-    )?;
+    let sought = sought_in(rows, 100_000);
+    let (found, exact) = search_guided(alloc, &sought, &mut hinter, &mut Diver)?;
     Ok((found.left_open && !exact, found.cap, found.spent))
 }
 

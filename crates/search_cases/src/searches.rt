@@ -1,10 +1,13 @@
 //! Searches of a small program.
 ghost use Rattle.std.specs.Prelude.{◌≤◌};
 ghost use Rattle.branch_tree.specs.Searched.{AreSearchable};
+ghost use Rattle.branch_tree.specs.SearchRequest.{CanSearch};
 
 use crate::advisers::{Liar, Silent, Splitter, Teller};
 use crate::told::{put_best, put_floor, put_search, put_split};
-use branch_tree::{Hinter, Searched, are_plain_searchable, search, search_guided};
+use branch_tree::{
+    Hinter, SearchRequest, Searched, SplitRules, are_plain_searchable, search, search_guided,
+};
 use case_programs::{bytes_of, put_cap};
 use case_tables::{Sheet, Tried};
 use row_relax::Rows;
@@ -51,6 +54,31 @@ fn slot_count(rows: &Rows) -> u32 {
     rows.program.root.len() as u32
 }
 
+// A search of at most so many boxes that begins with this point. Slots from the number `given` on are sums.
+fn sought_in<'a>(
+    rows: &'a Rows,
+    given: u32,
+    floors: bool,
+    budget: u32,
+    start: &'a [u8],
+) -> SearchRequest<'a>
+    requires searchable { AreSearchable 4608 rows.now }
+    requires budget { (1 ≤ budget) × (budget ≤ 100000) }
+    ensures { CanSearch result }
+{
+    let rules = SplitRules {
+        given,
+        floors,
+        most: MOST_SPLITS,
+    };
+    SearchRequest {
+        rows,
+        rules,
+        budget,
+        start,
+    }
+}
+
 // `search BUDGET` with a hinter that says of points outside of every box that they are lawful, and `hint BUDGET VALUE ..` with
 // one that tells this point: the cap, the worth of the best point, and whether a box is left open.
 fn plain(alloc: Global, rows: &Rows, sheet: &mut Sheet) -> Tried
@@ -76,18 +104,8 @@ fn search_plain<H: Hinter>(
     requires searchable { AreSearchable 4608 rows.now }
     requires budget { (1 ≤ budget) × (budget ≤ 100000) }
 {
-    let given = slot_count(rows);
-    search(
-        alloc,
-        rows,
-        MOST_SPLITS,
-        given,
-        false,
-        budget,
-        start,
-        hinter,
-        &mut PlainGuide,
-    )
+    let sought = sought_in(rows, slot_count(rows), false, budget, start);
+    search(alloc, &sought, hinter, &mut PlainGuide)
 }
 
 // `begin BUDGET VALUE ..`, without plans that are offered: a search that begins with this point, which may not be lawful.
@@ -122,18 +140,8 @@ fn search_floored(
     requires searchable { AreSearchable 4608 rows.now }
     requires budget { (1 ≤ budget) × (budget ≤ 100000) }
 {
-    let given = slot_count(rows);
-    search(
-        alloc,
-        rows,
-        MOST_SPLITS,
-        given,
-        true,
-        budget,
-        start,
-        &mut Silent,
-        &mut PlainGuide,
-    )
+    let sought = sought_in(rows, slot_count(rows), true, budget, start);
+    search(alloc, &sought, &mut Silent, &mut PlainGuide)
 }
 
 // `lie BUDGET` and `leave BUDGET`, with a guide that advises what is not there, and may leave every part open: the best point,
@@ -160,17 +168,8 @@ fn search_lying(
         point: Vec::new(alloc),
     };
     let mut guide = Liar { leaves };
-    search_guided(
-        alloc,
-        rows,
-        MOST_SPLITS,
-        slot_count(rows),
-        false,
-        budget,
-        &[],
-        &mut hinter,
-        &mut guide,
-    )
+    let sought = sought_in(rows, slot_count(rows), false, budget, &[]);
+    search_guided(alloc, &sought, &mut hinter, &mut guide)
 }
 
 fn put_guided(found: &Searched, exact: bool, sheet: &mut Sheet) {
@@ -202,15 +201,6 @@ fn search_splitting(
 ) -> Result<(Searched, bool), AllocError>
     requires { AreSearchable 4608 rows.now }
 {
-    search_guided(
-        alloc,
-        rows,
-        MOST_SPLITS,
-        given,
-        false,
-        1_000,
-        &[],
-        &mut Silent,
-        &mut Splitter { max },
-    )
+    let sought = sought_in(rows, given, false, 1_000, &[]);
+    search_guided(alloc, &sought, &mut Silent, &mut Splitter { max })
 }

@@ -11,10 +11,12 @@ mod part;
 mod plain;
 mod planning;
 mod plant;
+mod plant_part;
 mod solved;
 mod telling;
 
 pub use part::{plan_rows, solve_rows_to};
 pub use plain::solve_rows;
-pub use plant::{plan, plan_from, point_of, solve, solve_from_to, solve_to};
+pub use plant::{plan, point_of, solve, solve_to};
+pub use plant_part::PlantPart;
 pub use solved::Solved;

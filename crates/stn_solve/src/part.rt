@@ -11,6 +11,7 @@ ghost use Rattle.stn_solve.specs.Begun.{EarnsPoint};
 
 use crate::headed::{plan_headed, solve_headed_to};
 use crate::plain::{plan_plain, solve_plain_to};
+use crate::plant_part::PlantPart;
 use box_advice::Advisers;
 use row_kit::{Domain, List, Program};
 use row_relax::Rows;
@@ -56,26 +57,26 @@ pub fn plan_rows<A: Advisers>(
 /// a log. `Failed` comes only where the store counted a fault of writing.
 pub fn solve_rows_to<A: Advisers, F: Shelf>(
     alloc: Global,
-    plant: &Plant,
-    part: Program,
-    judged: List<Domain>,
-    levels: u32,
+    part: PlantPart,
     budget: u32,
     start: &[u8],
     files: &mut F,
     name: &str,
 ) -> Result<Outcome, Stop>
-    requires sound { Sound plant.now }
-    requires part { IsPartOf plant.now part }
-    requires ranges { AreRanges part judged }
+    requires sound { Sound part.plant.now }
+    requires part { IsPartOf part.plant.now part.program }
+    requires ranges { AreRanges part.program part.judged }
     requires budget { (1 ≤ budget) × (budget ≤ 100000) }
     requires allowed { IsTrue (F.may_write files.old name.now) }
-    ensures outcome { IfOk result (IsPartOutcome plant.now part budget) }
+    ensures outcome { IfOk result
+        (IsPartOutcome part.entry.plant.now part.entry.program budget) }
     ensures proof { IfOk result
-        (HasProof plant.now part judged levels (bytes_in name.now (F.files files.new))) }
-    ensures begun { IfOk result (λ outcome. EarnsPoint part start.now outcome.answer) }
-    ensures err { OnErr result (LeavesSomeBegun plant.now part judged levels name.now
-        (F.files files.old) (F.files files.new)) }
+        (HasProof part.entry.plant.now part.entry.program part.entry.judged part.entry.levels
+        (bytes_in name.now (F.files files.new))) }
+    ensures begun { IfOk result
+        (λ outcome. EarnsPoint part.entry.program start.now outcome.answer) }
+    ensures err { OnErr result (LeavesSomeBegun part.entry.plant.now part.entry.program
+        part.entry.judged part.entry.levels name.now (F.files files.old) (F.files files.new)) }
     ensures others { OthersStay name.now (F.files files.old) (F.files files.new) }
     ensures readable { F.may_read files.new ≡ F.may_read files.old }
     ensures writable { F.may_write files.new ≡ F.may_write files.old }
@@ -84,11 +85,12 @@ pub fn solve_rows_to<A: Advisers, F: Shelf>(
     ensures failed { result ≡ Err Stop.Failed
         → Rose (F.write_faults files.old) (F.write_faults files.new) }
 {
-    if has_many(&part, levels) {
-        return solve_headed_to::<A, _>(alloc, plant, part, judged, budget, start, files, name);
+    if has_many(&part.program, part.levels) {
+        return solve_headed_to::<A, _>(alloc, part, budget, start, files, name);
     }
+    let PlantPart { plant, program, .. } = part;
     let rows = Rows {
-        program: part,
+        program,
         choices: None,
     };
     solve_plain_to::<A, _>(alloc, plant, &rows, budget, start, files, name)

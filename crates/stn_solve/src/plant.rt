@@ -14,6 +14,7 @@ ghost use Rattle.stn_solve.specs.Begun.{EarnsAtLeast};
 
 use crate::part::{plan_rows, solve_rows_to};
 use crate::plain::solve_rows;
+use crate::plant_part::PlantPart;
 use crate::solved::Solved;
 use box_advice::Advisers;
 use row_kit::{Domain, List, Program};
@@ -32,19 +33,9 @@ pub struct Whole {
     pub point: Vec<u8>,
 }
 
-/// Plans a plant with at most so many boxes. There is a proof of the outcome, which is not kept.
-pub fn plan<A: Advisers>(alloc: Global, plant: &Plant, budget: u32) -> Result<Outcome, AllocError>
-    requires sound { Sound plant.now }
-    requires budget { (1 ≤ budget) × (budget ≤ 100000) }
-    ensures outcome { IfOk result (IsOutcome plant.now budget) }
-    ensures proof { IfOk result (HasPlantProof plant.now None) }
-{
-    plan_from::<A>(alloc, plant, &[], budget)
-}
-
-/// Plans a plant as `plan` does, and begins with a plan: where that is feasible, the PROFIT is at least what it earns, whatever the
-/// budget.
-pub fn plan_from<A: Advisers>(
+/// Plans a plant with at most so many boxes, and begins with a plan: where that is feasible, the PROFIT is at least what it earns,
+/// whatever the budget. There is a proof of the outcome, which is not kept.
+pub fn plan<A: Advisers>(
     alloc: Global,
     plant: &Plant,
     start: &[Start],
@@ -114,36 +105,9 @@ pub fn solve<A: Advisers>(alloc: Global, plant: &Plant, budget: u32) -> Result<S
     solve_rows::<A>(alloc, plant, &rows, budget)
 }
 
-/// Plans a plant with at most so many boxes, and writes the log of the proof to a file while it searches. After an error the
-/// file is as before, or holds a first part of a log. `Failed` comes only where the store counted a fault of writing.
+/// Plans a plant as `plan` does, and writes the log of the proof to a file while it searches. After an error the file is as before, or
+/// holds a first part of a log. `Failed` comes only where the store counted a fault of writing.
 pub fn solve_to<A: Advisers, F: Shelf>(
-    alloc: Global,
-    plant: &Plant,
-    budget: u32,
-    files: &mut F,
-    name: &str,
-) -> Result<Outcome, Stop>
-    requires sound { Sound plant.now }
-    requires budget { (1 ≤ budget) × (budget ≤ 100000) }
-    requires allowed { IsTrue (F.may_write files.old name.now) }
-    ensures outcome { IfOk result (IsOutcome plant.now budget) }
-    ensures proof { IfOk result (HasPlantProof plant.now (bytes_in name.now (F.files files.new))) }
-    ensures err { OnErr result (IsLeftOf plant.now name.now (F.files files.old)
-        (F.files files.new)) }
-    ensures others { OthersStay name.now (F.files files.old) (F.files files.new) }
-    ensures readable { F.may_read files.new ≡ F.may_read files.old }
-    ensures writable { F.may_write files.new ≡ F.may_write files.old }
-    ensures no_read { F.read_faults files.new ≡ F.read_faults files.old }
-    ensures later { F.write_faults files.old ≤ F.write_faults files.new }
-    ensures failed { result ≡ Err Stop.Failed
-        → Rose (F.write_faults files.old) (F.write_faults files.new) }
-{
-    solve_from_to::<A, _>(alloc, plant, &[], budget, files, name)
-}
-
-/// Plans a plant as `solve_to` does, and begins with a plan: where that is feasible, the PROFIT is at least what it earns, whatever
-/// the budget.
-pub fn solve_from_to<A: Advisers, F: Shelf>(
     alloc: Global,
     plant: &Plant,
     start: &[Start],
@@ -173,7 +137,11 @@ pub fn solve_from_to<A: Advisers, F: Shelf>(
         judged,
         point,
     } = whole_of(alloc, plant, start)?;
-    solve_rows_to::<A, _>(
-        alloc, plant, program, judged, 0, budget, &point, files, name,
-    )
+    let part = PlantPart {
+        plant,
+        program,
+        judged,
+        levels: 0,
+    };
+    solve_rows_to::<A, _>(alloc, part, budget, &point, files, name)
 }

@@ -37,4 +37,4 @@ returns-clause-merged g c =
     let new = g.F.Shelf.files c.write_checked.new.files in
     let ordered = subst (λ (claims : List Claim). IsOrder claims order) c.as_slice.ensures.value c.in_ok-order.ensures in
     answer-then c.write_checked.result _ (λ own. IfSome old (λ m. IfSome new (λ n. IsMergedLog plant (length logs.fronts.items) (logs_of m stem) own (file_of n out))))
-    (λ own has. merged-checked _ c.joined-best.result own stem out old new plant (length logs.fronts.items) logs order refl refl c.as_slice-2.ensures.value c.as_slice-3.ensures.value c.requires.checked c.requires.known c.joined-best.ensures.joined ordered has) c.write_checked.ensures.checked
+    (λ own has. merged-checked _ c.joined.result own stem out old new plant (length logs.fronts.items) logs order refl refl c.as_slice-2.ensures.value c.as_slice-3.ensures.value c.requires.checked c.requires.known c.joined.ensures.joined ordered has) c.write_checked.ensures.checked

@@ -8,6 +8,6 @@ solve_headed_to-requires-clause-can g c = record {
   sound = c.requires.sound;
   part_of = c.requires.part;
   ranges = c.requires.ranges;
-  many = headed-whole c.args.part c.args.levels c.requires.part.each_open (sym c.has_many.ensures ∙ c.if-has_many.true);
+  many = headed-whole c.args.part.program c.args.part.levels c.requires.part.each_open (sym c.has_many.ensures ∙ c.if-has_many.true);
   few = c.requires.budget;
 }

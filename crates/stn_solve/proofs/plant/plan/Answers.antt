@@ -1,0 +1,34 @@
+-- The program of a plant is a part of its choices, and its outcomes are those of the plant.
+use Rattle.std.proofs.Common.{◌∙◌, None, List, sym, subst}
+use Rattle.std.proofs.lemmas.Result.{IfOk-weaker}
+use Rattle.stn_model.specs.declared.answer.Outcome.{Outcome}
+use Rattle.row_kit.specs.declared.domain.Domain.{Domain}
+use Rattle.sum_slots.specs.Shown.{AreRanges}
+use Rattle.valid_log.proofs.PlantRanges.{plant-ranges}
+use Rattle.plan_told.specs.Proofs.{HasProof}
+use Rattle.plan_told.proofs.WholePlant.{whole-is_part, whole-outcome}
+use Rattle.stn_solve.proofs.BegunTold.{begun-if}
+use Rattle.stn_solve.proofs.plant.plan.Goals as goal
+
+pub plan_rows-requires-clause-part : goal.plan_rows-requires-clause-part
+plan_rows-requires-clause-part g c = whole-is_part c.args.plant.now c.in_ok-program.field-0.program c.in_ok-program.ensures.made c.in_ok-program.ensures.means
+
+pub plan_rows-requires-clause-ranges : goal.plan_rows-requires-clause-ranges
+plan_rows-requires-clause-ranges g c = subst (AreRanges c.in_ok-program.field-0.program) (sym c.in_ok-program.ensures.judged) (plant-ranges c.args.plant.now c.in_ok-program.field-0.program c.in_ok-program.ensures.made)
+
+pub returns-clause-outcome : goal.returns-clause-outcome
+returns-clause-outcome g c =
+    IfOk-weaker c.plan_rows.result _ _
+    (λ outcome right. whole-outcome c.args.plant.now c.in_ok-program.field-0.program c.args.budget outcome c.requires.sound c.in_ok-program.ensures.made c.in_ok-program.ensures.means right)
+    c.plan_rows.ensures.outcome
+
+pub returns-clause-proof : goal.returns-clause-proof
+returns-clause-proof g c =
+    IfOk-weaker c.plan_rows.result _ _
+    (λ (outcome : Outcome) (has : HasProof c.args.plant.now c.in_ok-program.field-0.program c.in_ok-program.field-0.judged 0 None outcome). record { program = c.in_ok-program.field-0.program; made = c.in_ok-program.ensures.made; means = c.in_ok-program.ensures.means; has = subst (λ (ds : List Domain). HasProof c.args.plant.now c.in_ok-program.field-0.program ds 0 None outcome) c.in_ok-program.ensures.judged has })
+    c.plan_rows.ensures.proof
+
+pub returns-clause-begun : goal.returns-clause-begun
+returns-clause-begun g c =
+    begun-if c.args.plant.now c.in_ok-program.field-0.program c.args.start.now c.deref.result.now c.plan_rows.result c.requires.sound (whole-is_part c.args.plant.now c.in_ok-program.field-0.program c.in_ok-program.ensures.made c.in_ok-program.ensures.means)
+    c.in_ok-program.ensures.means (λ has. c.deref.ensures.value ∙ c.in_ok-program.ensures.point has) c.plan_rows.ensures.begun
