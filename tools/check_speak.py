@@ -69,19 +69,18 @@ def keys_wanted(formats):
         "plan": kinds_in(section(formats, "## The plan file")),
         "log": kinds_in(logs) | set(re.findall(r"`no 0 (\d+)`", prose)) | set(re.findall(r"line 0 and kind (\d+)", formats))
         | set(re.findall(r"kind (\d+) is answered at", logs)),
-        "form": {it for head, rows in tables_of(words) if head[0] == "Words" for row in rows for it in re.findall(r"^`stn (.*)`$", row[0])},
     }
 
 
 def check_table(formats):
-    """Each status, answer, kind, violation and form has its row, and there is no other."""
+    """Each status, answer, kind, violation and word of a form has its row, and there is no other."""
     have = {}
     for subject, key in texts.TABLE:
         have.setdefault(subject, set()).add(key)
     for subject, wanted in keys_wanted(formats).items():
         for key in sorted(wanted ^ have.get(subject, set())):
             yield f"sentences.tsv: {subject} {key} stands in {'docs/formats.md' if key in wanted else 'the table'} alone"
-    words = {it for form in have["form"] for it in form.split()[1:] if it.isupper()} - {"PLANT", "PLAN", "LOG", "STEM", "STATE", "OUT"}
+    words = {it for form in texts.FORMS for it in form[1:] if it.isupper()} - {"PLANT", "PLAN", "LOG", "STEM", "STATE", "OUT"}
     for word in sorted(words ^ {it.split()[-1] for it in have["word"]}):
         yield f"sentences.tsv: the word {word} has no row, or no form"
     for (subject, key), (range_, _) in texts.TABLE.items():

@@ -16,7 +16,20 @@ def table():
     return found
 
 
+def forms():
+    """The forms of commands.txt, as lists of words; one with a word in brackets is two."""
+    found = []
+    with open(os.path.join(HERE, "commands.txt"), encoding="utf-8") as lines:
+        for line in lines:
+            kind, _, said = line.replace("!", "").partition(" ")
+            form = said.split()
+            if kind == "form":
+                found += [form[:-1], form[:-1] + [form[-1][1:-1]]] if form[-1].startswith("[") else [form]
+    return found
+
+
 TABLE = table()
+FORMS = forms()
 
 
 def means(subject, key):

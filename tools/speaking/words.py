@@ -1,9 +1,8 @@
 """The words of a run: their form, the files that they name, and what is wrong with words of no form."""
 import re
 
-from speaking.texts import TABLE, count, do, grouped, means, meant, sentences, short
+from speaking.texts import FORMS, TABLE, count, do, grouped, means, meant, sentences, short
 
-FORMS = [key.split(" ") for subject, key in TABLE if subject == "form"]
 # The files that a form reads, in their order; those of a stem are told apart by a number.
 FILES = ("PLANT", "PLAN", "LOG", "STEM", "OUT")
 WRITES = {"solve": ("LOG", "STEM"), "replan": ("LOG",), "solve-part": ("LOG",), "join": ("LOG",), "least": ("STEM",),
