@@ -23,7 +23,10 @@ def run(*words):
 
 
 def plan_of(plant, room):
-    """A file with the plan that `solve` finds with a thousand boxes, or nothing where it finds none."""
+    """The plan that stands beside a plant, else a file with that which `solve` finds with a thousand boxes, or nothing where it finds none."""
+    kept = plant.removesuffix(".toml") + ".plan"
+    if os.path.exists(kept):
+        return kept
     ran = run("solve", plant, "1000")
     if ran.returncode not in (0, 6) or ran.stdout.startswith(b"# budget-spent -"):
         return None

@@ -27,7 +27,7 @@ from random_logs import logs_of_one_head, random_log
 TOP = Path(__file__).resolve().parent.parent
 BUDGETS = ("1", "7", "60")
 MUTANTS, MUTANT_PLANTS, RANDOM_PLANTS, RANDOM_LOGS, MERGES = 500, 250, 40, 8, 6
-GREATEST_MUTANT, SECONDS = 20_000, int(os.environ.get("SECONDS_EACH", 20))
+GREATEST_MUTANT, SECONDS, LONGEST = 20_000, int(os.environ.get("SECONDS_EACH", 20)), 96
 ODD_NUMBERS = (b"0", b"1", b"2", b"254", b"255", b"256", b"4608", b"50000", b"50001", b"1048576", b"1048577", b"1099511627776",
                b"1099511627777", b"9" * 30, b"9" * 31, b"-1", b"-0", b"00", b"01", b"-")
 
@@ -215,9 +215,15 @@ def kind_of(text):
     return " ".join([words[0], words[-1]] if words[0] == "no" else words[: 3 if words[0] == "refused" else 2])
 
 
+def examples():
+    """The plants of the examples, but for those of long horizons, which take too long here."""
+    plants = sorted((TOP / "examples").glob("*.toml"))
+    return [it for it in plants if int(re.search(r"^periods *= *(\d+)", it.read_text(), re.M)[1]) <= LONGEST]
+
+
 def written(comparison):
     """Logs that the program writes for the plants of the examples, (name, plant, log)."""
-    for plant in sorted((TOP / "examples").glob("*.toml")):
+    for plant in examples():
         for budget in BUDGETS:
             log = comparison.room / "written"
             if comparison.run("solve", plant, budget, log, seconds=SECONDS):
@@ -235,7 +241,7 @@ def stored():
 
 def plants(dice):
     """The plants of the examples, and plants made at random."""
-    for plant in sorted((TOP / "examples").glob("*.toml")):
+    for plant in examples():
         yield plant.stem, plant.read_bytes()
     for number in range(RANDOM_PLANTS):
         yield f"plant {number}", toml(random_plant(dice))

@@ -15,7 +15,8 @@ use Rattle.proof_tree.specs.Cap.{greater}
 use Rattle.branch_tree.specs.Justified.{IsAbove, IsGroup, IsReached}
 use Rattle.branch_tree.specs.Searched.{IsBest, IsWorth}
 use Rattle.branch_tree.specs.laws.Grounds.{IsOffered}
-use Rattle.branch_tree.specs.laws.Ends.{ClosedBy, Reaches, better_of, is_over}
+use Rattle.branch_tree.specs.Compared.{better_of, is_over}
+use Rattle.branch_tree.specs.laws.Ends.{ClosedBy, Reaches}
 
 -- a point that stands last among others is one of them
 pub Contains-last : {X : Type 0} (xs : List X) (x : X) → Contains (xs ++ x ∷ []) x

@@ -19,7 +19,8 @@ use Rattle.dual_bound.specs.Plain.{plain_cert, IsNotAbove}
 use Rattle.proof_tree.specs.declared.capped.Capped.{Capped}
 use Rattle.proof_tree.specs.declared.capped.Capped.TheVariants.{AtMost, NoPoint, Bad}
 use Rattle.branch_tree.specs.Justified.{IsPolished}
-use Rattle.branch_tree.specs.laws.Ends.{says_more, is_over}
+use Rattle.branch_tree.specs.Compared.{is_over}
+use Rattle.branch_tree.specs.laws.Ends.{says_more}
 
 -- a cap that says more than one is within what that is within
 pub says_more-within : (cap other most : Capped) → says_more cap other ≡ true → IsNotAbove other most → IsNotAbove cap most

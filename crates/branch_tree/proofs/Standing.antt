@@ -1,5 +1,5 @@
 -- Where a search stands after cuts, and in the parts of a split.
-use Rattle.std.proofs.Common.{◌≡◌, ◌≢◌, ℕ, ◌+◌, ◌<◌, ◌≤◌, Bool, true, false, ◌&&◌, cond, eqb, ltb, List, [], ◌∷◌, ◌++◌, length, get_or, Option, Some, None, option_to_list, refl, sym, ap, ◌∙◌, subst, arith, inl, inr}
+use Rattle.std.proofs.Common.{◌≡◌, ◌≢◌, ℕ, ◌+◌, ◌<◌, ◌≤◌, Bool, true, false, ◌&&◌, cond, eqb, ltb, List, [], ◌∷◌, ◌++◌, length, map, take, get_or, Option, Some, None, option_to_list, refl, sym, ap, ◌∙◌, subst, arith, inl, inr}
 use Rattle.std.specs.Prelude.{ℤ, pos, int_lt, ◌≤ℤ◌, IfSome}
 use Rattle.std.specs.Int.{int_div_euclid}
 use Rattle.std.proofs.lemmas.Bool.Decides.{nat_tests}
@@ -28,7 +28,7 @@ use Rattle.proof_tree.specs.declared.capped.Capped.TheVariants.{AtMost, NoPoint,
 use Rattle.proof_tree.specs.Views.{KeepsViews, MovesTo, View, present as last_view}
 use Rattle.row_relax.specs.declared.pick.RowPick.{RowPick}
 use Rattle.row_relax.specs.Steps.{kept_at, row_steps, shown_if}
-use Rattle.row_relax.specs.View.{Fits, domains_of, points_in}
+use Rattle.row_relax.specs.View.{Fits, domains_of, points_in, view_of}
 use Rattle.row_relax.specs.laws.Laws.{rows_sound}
 use Rattle.row_relax.specs.laws.Shown.{domains_there}
 use Rattle.row_relax.proofs.Marks.{domains-views}
@@ -38,9 +38,9 @@ use Rattle.branch_tree.specs.declared.reached.Ground.{Ground}
 use Rattle.branch_tree.specs.declared.reached.Reached.{Reached}
 use Rattle.branch_tree.specs.Justified.{IsGroup, IsParted}
 use Rattle.branch_tree.specs.Searched.{IsBest}
+use Rattle.branch_tree.specs.laws.Ends.{view_splits}
 use Rattle.branch_tree.specs.laws.Grounds.{IsOwnBest, IsSplitPart, IsSplitAt, StandsIn, program_of, seen, slot_alone, rows_of, choices_at, IsAmong}
 use Rattle.branch_tree.proofs.Depths.{CutsLeave, splits-left, splits-right}
-use Rattle.branch_tree.proofs.Forgotten.{IsLeftTo}
 use Rattle.branch_tree.proofs.Opened.{none_bare-open}
 
 -- after its cuts a search stands in the view that they leave
@@ -59,28 +59,16 @@ stands_after ground v w old new stands leave places changed own depth = record {
     kept None is = tt
     kept (Some f) is = (is.0, (is.1.0, is.1.1, leave.keeps is.1.0 is.1.2 is.1.1.lawful))
 
--- and after its own point was offered there
-pub stands_on : (ground : Ground) (v w : View) (old new : Reached) → StandsIn ground v old → CutsLeave (program_of ground) v w
+-- and in a view with no more splits, where it has no point of its own to offer
+pub stands_on : (ground : Ground) (v w : View) (old new : Reached) → StandsIn ground v old → Fits (program_of ground) w → view_splits w ≤ view_splits v
     → length new.point.items ≡ length old.point.items → new.changed ≡ None → new.own ≡ None → new.depth ≡ old.depth → StandsIn ground w new
-stands_on ground v w old new stands leave places changed own depth = record {
+stands_on ground v w old new stands fits splits places changed own depth = record {
   indexed = stands.indexed;
-  fits = leave.fits;
+  fits = fits;
   places = places ∙ stands.places;
-  deep = omega (arith, stands.deep, leave.splits, depth);
+  deep = omega (arith, stands.deep, splits, depth);
   room = subst (λ o. IfSome o (λ slot. (slot < length (program_of ground).root) × HaveRoomBut (program_of ground).rows (slot ∷ []) (domains_of w))) (sym changed) tt;
   own = subst (λ o. IfSome o (λ found. IsGroup (choices_at ground) found × IsAmong (rows_of ground) w found.point)) (sym own) tt;
-}
-
--- and in what the floor of a split leaves
-pub stands_left : (ground : Ground) (v rest : View) (old new : Reached) → StandsIn ground v old → IsLeftTo (program_of ground) v rest
-    → length new.point.items ≡ length old.point.items → new.changed ≡ None → new.own ≡ None → new.depth ≡ old.depth → StandsIn ground rest new
-stands_left ground v rest old new stands leave places changed own depth = record {
-  indexed = stands.indexed;
-  fits = leave.fits;
-  places = places ∙ stands.places;
-  deep = omega (arith, stands.deep, leave.splits, depth);
-  room = subst (λ o. IfSome o (λ slot. (slot < length (program_of ground).root) × HaveRoomBut (program_of ground).rows (slot ∷ []) (domains_of rest))) (sym changed) tt;
-  own = subst (λ o. IfSome o (λ found. IsGroup (choices_at ground) found × IsAmong (rows_of ground) rest found.point)) (sym own) tt;
 }
 
 -- what is best later is worth as much as one's own too
@@ -115,6 +103,39 @@ left_there program v pick parts = (_, ap (λ there. shown_if there (kept_at (dom
 pub right_there : {given : ℕ} (program : Program) (v : View) (pick : RowPick) → IsParted given (domains_of v) pick → (x : View) × ((row_steps program).right v pick ≡ Some x)
 unfolding row_steps
 right_there program v pick parts = (_, ap (λ there. shown_if there (kept_at (domains_of v) pick.slot (over pick.max))) (lt-ltb pick.slot (length (domains_of v)) parts.slot))
+
+-- a call led to what the second area shows, and the views of the first stay
+abbrev pub LedTo : Option View → List (List Domain) → List (List Domain) → Type 0
+LedTo next old new = (next ≡ Some (seen new)) × KeepsViews (map view_of old) (map view_of new)
+
+-- going back to a mark gives the views that stood there
+pub back_at : (old first later back : List View) (mark : ℕ) → mark + 1 ≡ length old → KeepsViews old first → later ≡ first → back ≡ take (mark + 1) later → back ≡ old
+back_at old first later back mark at keeps same is = is ∙ ap (take (mark + 1)) same ∙ ap (λ n. take n first) at ∙ keeps
+
+-- the left part of a split was taken
+pub left_moved : {given : ℕ} (program : Program) (area first : List (List Domain)) (pick : RowPick) (answer : Bool) → IsParted given (domains_of (seen area)) pick → MovesTo ((row_steps program).left (seen area) pick) (map view_of area) (map view_of first) answer
+    → LedTo ((row_steps program).left (seen area) pick) area first
+left_moved program area first pick answer parts moves =
+    let there = left_there program (seen area) pick parts in
+    moved_to ((row_steps program).left (seen area) pick) (map view_of area) (map view_of first) answer there.0 there.1 moves
+
+-- the left part of a split was taken, and after a search in it the right one
+pub record PartsMoved (program : Program) (area first second : List (List Domain)) (pick : RowPick) : Type 0 where
+  pub left : LedTo ((row_steps program).left (seen area) pick) area first
+  pub right : LedTo ((row_steps program).right (seen area) pick) area second
+
+pub parts_moved : {given : ℕ} (program : Program) (area first later back second : List (List Domain)) (pick : RowPick) (answer answer2 : Bool) (mark : ℕ) → IsParted given (domains_of (seen area)) pick
+    → MovesTo ((row_steps program).left (seen area) pick) (map view_of area) (map view_of first) answer → mark + 1 ≡ length (map view_of area) → map view_of later ≡ map view_of first → map view_of back ≡ take (mark + 1) (map view_of later)
+    → MovesTo ((row_steps program).right (seen back) pick) (map view_of back) (map view_of second) answer2 → PartsMoved program area first second pick
+parts_moved program area first later back second pick answer answer2 mark parts moves at same is moves2 =
+    let left = left_moved program area first pick answer parts moves in
+    let there = right_there program (seen area) pick parts in
+    let again : map view_of back ≡ map view_of area = back_at (map view_of area) (map view_of first) (map view_of later) (map view_of back) mark at left.1 same is in
+    record {
+      left = left;
+      right = moved_to ((row_steps program).right (seen area) pick) (map view_of area) (map view_of second) answer2 there.0 there.1
+          (subst (λ views. MovesTo ((row_steps program).right (last_view views) pick) views (map view_of second) answer2) again moves2);
+    }
 
 -- the domains of the parts of a split
 left_domains : (program : Program) (v x : View) (pick : RowPick) → (row_steps program).left v pick ≡ Some x → domains_of x ≡ kept_at (domains_of v) pick.slot (up_to pick.max)

@@ -17,7 +17,7 @@ use Rattle.proof_tree.specs.declared.capped.Capped.TheVariants.{AtMost, NoPoint,
 use Rattle.proof_tree.specs.declared.item.Item.TheVariants.{Node, Cut, Found as FoundItem, Empty, Dual, Point, Pending, Split}
 use Rattle.proof_tree.specs.Items.{tree_items, found_in}
 use Rattle.proof_tree.specs.Nodes.{EachNode, counted, found_points}
-use Rattle.proof_tree.specs.Tree.{tree_cap}
+use Rattle.proof_tree.specs.Tree.{tree_cap, tree_of}
 use Rattle.proof_tree.proofs.Folds.{found_in-tree}
 use Rattle.proof_tree.proofs.Sound.{tree_cap-bounds}
 use Rattle.row_relax.specs.declared.Rows.{Rows}
@@ -28,11 +28,15 @@ use Rattle.row_relax.specs.laws.Shown.{domains_of-view_of, fits_of}
 use Rattle.row_relax.specs.Choices.{choices_of, steps_of, HaveImages, IsLawfulIn, worth_in}
 use Rattle.row_relax.proofs.Choosing.{choices-bounds}
 use Rattle.branch_tree.specs.declared.ended.Ended.{Ended}
+use Rattle.branch_tree.specs.declared.ended.Searched.{Searched}
 use Rattle.branch_tree.specs.declared.reached.Reached.{Reached}
+use Rattle.branch_tree.specs.declared.request.SearchRequest.{SearchRequest}
 use Rattle.row_relax.specs.RowProofs.{RowItem, RowTree}
 use Rattle.branch_tree.specs.Justified.{IsGroup}
-use Rattle.branch_tree.specs.Searched.{IsBest, IsBrokenOff, IsExact, IsFitItem, IsSearch, IsSearchable, AreSearchable, IsSearchedTo, IsSettled, IsWorth}
-use Rattle.branch_tree.specs.laws.Ends.{NodeDone, is_over}
+use Rattle.branch_tree.specs.Searched.{IsBest, IsBrokenOff, IsExact, IsFitItem, IsSearch, IsSearchable, AreSearchable, IsSearchedTo, IsSettled, IsWorth, ended_of}
+use Rattle.branch_tree.specs.SearchRequest.{IsSearchFor}
+use Rattle.branch_tree.specs.Compared.{is_over}
+use Rattle.branch_tree.specs.laws.Ends.{NodeDone}
 use Rattle.range_prop.specs.Cuts.{HaveRoomBut}
 use Rattle.branch_tree.specs.declared.reached.Ground.{Ground}
 use Rattle.branch_tree.specs.laws.Grounds.{IsGround, IsOwnBest, IsStart, StandsIn, program_of, seen, rows_of, choices_at, IsAmong}
@@ -237,3 +241,7 @@ root-stopped took broke most rows floors t o t2 o2 searchable none s = record {
 -- a search that broke off before its first item
 pub root-before : {T O : Type 0} (took broke : T → O → List RowItem → T → O → Type 0) (most : ℕ) (rows : Rows) (floors : Bool) (t : T) (o : O) → IsSearchable most rows.program → took t o [] t o → IsBrokenOff took broke most rows floors t o t o
 root-before took broke most rows floors t o searchable none = root-stopped took broke most rows floors t o t o searchable none (box_before took broke rows floors (view_of rows.program.root) t o)
+
+-- the search that a proof was built for, where the tree that was built is that of the proof
+pub root-built : (sought : SearchRequest) (ended : Ended) (searched : Searched) (tree : RowTree) → ended_of searched ≡ ended → tree_of searched.tree ≡ tree → IsSearchFor sought ended tree → IsSearchFor sought (ended_of searched) (tree_of searched.tree)
+root-built sought ended searched tree same is found = subst (λ (t : RowTree). IsSearchFor sought (ended_of searched) t) (sym is) (subst (λ (e : Ended). IsSearchFor sought e tree) (sym same) found)

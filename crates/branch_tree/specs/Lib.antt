@@ -1,3 +1,4 @@
+pub mod Compared
 pub mod Deep
 pub mod Justified
 pub mod SearchRequest

@@ -1,7 +1,6 @@
 //! The search of a box: its cuts, its end, and both parts of its split.
 ghost use Rattle.std.specs.Prelude.{◌≡◌, ◌≢◌, ℕ, ◌+◌, ◌<◌, ◌≤◌, List as Listed, Option, Some, None, length, false, ⊤, IfOk, IfSome, OnOk, OnErr, IsErrOf, IsTrue, true, ◌≤ℤ◌};
 ghost use Rattle.std.specs.List.{All};
-ghost use Rattle.std.specs.Option.{IsSomeAnd, option_map};
 ghost use Rattle.row_kit.specs.Area.{present};
 ghost use Rattle.row_kit.specs.Domain.{IsOpen};
 ghost use Rattle.range_prop.specs.Cuts.{AreDone, HaveRoom};
@@ -18,7 +17,7 @@ ghost use Rattle.branch_tree.specs.laws.Stops.{LookStopped, TailStopped, PartsSt
 
 use crate::advisers::SearchAdvisers;
 use crate::copies::copied_cert;
-use crate::found::{found_at, is_chosen};
+use crate::found::{found_at, is_chosen, worth_of};
 use crate::judging::judge;
 use crate::putting::{leave_open, open_box, put_found};
 use crate::reached::{Ground, Reached};
@@ -34,16 +33,6 @@ use std::alloc::AllocError;
 struct RowSplit<'a> {
     pub pick: &'a RowPick,
     pub cert: &'a Cert,
-}
-
-// The worth of a found point.
-pub(crate) fn worth_of(found: &Option<Found>) -> Option<i128>
-    ensures { result ≡ option_map (λ f. f.value) found.now }
-{
-    match found {
-        None => None,
-        Some(found) => Some(found.value),
-    }
 }
 
 // What the guide advises on a box with points.

@@ -1,14 +1,15 @@
 //! Points that are found, and whether they are lawful.
 ghost use Rattle.std.specs.Prelude.{◌≡◌, length, true, MatchOption, IfOk, IfSome, ◌≤ℤ◌};
 ghost use Rattle.std.specs.List.{All};
-ghost use Rattle.std.specs.Option.{IsSomeAnd};
+ghost use Rattle.std.specs.Option.{IsSomeAnd, option_map};
 ghost use Rattle.row_kit.specs.Area.{present};
 ghost use Rattle.row_kit.specs.Domain.{IsOpen};
 ghost use Rattle.row_kit.specs.Point.{IsLawful};
 ghost use Rattle.row_relax.specs.Choices.{settled_in};
 ghost use Rattle.row_relax.specs.Settle.{only_value, only_point};
 ghost use Rattle.branch_tree.specs.Justified.{IsGroup};
-ghost use Rattle.branch_tree.specs.laws.Ends.{better_of, is_chosen, Reaches};
+ghost use Rattle.branch_tree.specs.Compared.{better_of};
+ghost use Rattle.branch_tree.specs.laws.Ends.{is_chosen, Reaches};
 ghost use Rattle.branch_tree.specs.laws.Grounds.{choices_at, first_values, program_of, rows_of};
 
 use crate::reached::Ground;
@@ -46,8 +47,8 @@ pub(crate) fn tested_first(ground: &Ground, values: &[u8]) -> Result<Option<Foun
     tested(ground.alloc, choices_of(ground.rows), point)
 }
 
-// The least value of a domain that has one: 0 where it holds 0.
-fn least_value(domain: Domain) -> u8
+/// The least value of a domain that has one: 0 where it holds 0.
+pub fn least_value(domain: Domain) -> u8
     ensures { result ≡ only_value domain }
 {
     if domain.zero { 0 } else { domain.lo }
@@ -105,8 +106,8 @@ fn hinted<H: Hinter>(
     }
 }
 
-// The one of two found points that is worth more, the first where both are worth the same.
-pub(crate) fn better(one: Option<Found>, other: Option<Found>) -> Option<Found>
+/// The one of two found points that is worth more, the first where both are worth the same.
+pub fn better(one: Option<Found>, other: Option<Found>) -> Option<Found>
     ensures { result ≡ better_of one other }
 {
     match (one, other) {
@@ -117,6 +118,16 @@ pub(crate) fn better(one: Option<Found>, other: Option<Found>) -> Option<Found>
         } else {
             Some(one)
         },
+    }
+}
+
+/// The worth of a found point.
+pub fn worth_of(found: &Option<Found>) -> Option<i128>
+    ensures { result ≡ option_map (λ f. f.value) found.now }
+{
+    match found {
+        None => None,
+        Some(found) => Some(found.value),
     }
 }
 

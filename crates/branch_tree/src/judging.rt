@@ -5,7 +5,8 @@ ghost use Rattle.row_kit.specs.Area.{present};
 ghost use Rattle.row_kit.specs.Domain.{IsOpen, IsSingle};
 ghost use Rattle.dual_bound.specs.Cap.{cert_cap};
 ghost use Rattle.dual_bound.specs.Plain.{plain_cert, IsNoWorseThanPlain};
-ghost use Rattle.branch_tree.specs.laws.Ends.{is_over, says_more, IsBoxVerdict};
+ghost use Rattle.branch_tree.specs.Compared.{is_over};
+ghost use Rattle.branch_tree.specs.laws.Ends.{says_more, IsBoxVerdict};
 ghost use Rattle.branch_tree.specs.laws.Grounds.{IsGround, program_of, rows_of};
 
 use crate::flooring::pick_left;
@@ -40,8 +41,8 @@ fn says_more(one: Capped, other: Capped) -> bool
     }
 }
 
-// Whether a cap leaves something above the best worth.
-pub(crate) fn exceeds(cap: Capped, best: Option<i128>) -> bool
+/// Whether a cap leaves something above the best worth, where there is one.
+pub fn exceeds(cap: Capped, best: Option<i128>) -> bool
     ensures { result ≡ is_over cap best }
 {
     match (cap, best) {

@@ -11,7 +11,7 @@ ghost use Rattle.row_relax.specs.Choices.{steps_of};
 ghost use Rattle.row_relax.specs.View.{Fits, domains_of, view_of};
 ghost use Rattle.branch_tree.specs.Justified.{IsGroup};
 ghost use Rattle.branch_tree.specs.Searched.{IsFitItem};
-ghost use Rattle.branch_tree.specs.laws.Ends.{better_of};
+ghost use Rattle.branch_tree.specs.Compared.{better_of};
 ghost use Rattle.branch_tree.specs.laws.Grounds.{IsGround, program_of, seen, rows_of};
 ghost use Rattle.branch_tree.specs.laws.Handed.{Grows, HeadHanded, found_items};
 ghost use Rattle.branch_tree.specs.laws.Stops.{Stopped, HeadStopped, LookStopped};

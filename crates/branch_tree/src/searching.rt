@@ -4,17 +4,16 @@ ghost use Rattle.proof_tree.specs.Taker.{Rose};
 ghost use Rattle.proof_tree.specs.Tree.{tree_of};
 ghost use Rattle.proof_tree.specs.Items.{tree_items};
 ghost use Rattle.proof_tree.specs.Built.{HoldsItems};
-ghost use Rattle.branch_tree.specs.Searched.{IsExact, IsSearchedTo, IsBrokenOff, IsWorth, ended_of};
+ghost use Rattle.branch_tree.specs.Searched.{ended_of};
 ghost use Rattle.branch_tree.specs.SearchRequest.{BeganFor, CanSearch, IsExactFor, IsSearchFor, WasBrokenOff, WasSearched};
-ghost use Rattle.row_relax.specs.Choices.{HaveImages};
 ghost use Rattle.row_relax.specs.RowProofs.{RowTree};
-ghost use Rattle.branch_tree.specs.laws.Grounds.{IsGround, IsOffered, IsStart, program_of, rows_of, choices_at};
+ghost use Rattle.branch_tree.specs.laws.Grounds.{IsOffered, IsStart};
 
 use crate::advisers::SearchAdvisers;
-use crate::boxes::{search_box, worth_of};
+use crate::boxes::search_box;
 use crate::copies::RowCopier;
 use crate::ended::{Ended, Guided, Searched};
-use crate::found::{better, put_least, tested};
+use crate::found::{better, put_least, tested, worth_of};
 use crate::judging::exceeds;
 use crate::reached::{Ground, Reached};
 use crate::request::SearchRequest;
@@ -59,40 +58,44 @@ fn begun(alloc: Global, rows: &Rows, start: &[u8]) -> Result<Reached, AllocError
     })
 }
 
-// Searches the root.
+// Searches the root, with a guide that may leave boxes open though budget is left, or may not.
 fn search_root<H: Hinter, G: Guide, O, T: NodeTaker<Rows, O>>(
-    ground: &Ground,
-    start: &[u8],
+    alloc: Global,
+    sought: &SearchRequest,
+    may_leave: bool,
     hinter: &mut H,
     guide: &mut G,
     taker: &mut T,
     out: &mut O,
 ) -> Result<Ended, TakeStop>
-    requires ground { IsGround ground.now }
-    requires images { HaveImages (rows_of ground.now) }
-    requires budget { 1 ≤ ground.now.budget }
+    requires can { CanSearch sought.now }
     requires ready { T.ready taker.old out.old }
     ensures ready { OnOk result (T.ready taker.new out.new) }
-    ensures ok { IfOk result (λ ended. IsSearchedTo T.took ground.now.most (rows_of ground.now)
-        ground.now.floors ground.now.given ground.now.budget ended taker.old out.old
+    ensures ok { IfOk result (λ ended. WasSearched T.took sought.now ended taker.old out.old
         taker.new out.new) }
-    ensures begun { IfOk result
-        (λ ended. IsWorth (choices_at ground.now) start.now ended.best) }
-    ensures exact { IfOk result
-        (λ ended. ground.now.may_leave ≡ false
-        → IsExact (program_of ground.now) ground.now.budget ended) }
-    ensures guided { IfOk result
-        (λ ended. ended.spent ≡ ground.now.budget
-        → IsExact (program_of ground.now) ground.now.budget ended) }
-    ensures err { OnErr result (IsBrokenOff T.took T.broke ground.now.most (rows_of ground.now)
-        ground.now.floors taker.old out.old taker.new out.new) }
+    ensures begun { IfOk result (λ ended. BeganFor sought.now ended.best) }
+    ensures exact { IfOk result (λ ended. may_leave ≡ false → IsExactFor sought.now ended) }
+    ensures full { IfOk result
+        (λ ended. ended.spent ≡ sought.now.budget → IsExactFor sought.now ended) }
+    ensures err { OnErr result (WasBrokenOff T.took T.broke sought.now taker.old out.old
+        taker.new out.new) }
     ensures later { T.faults out.old ≤ T.faults out.new }
     ensures failed { IsErrOf result TakeStop.Failed → Rose (T.faults out.old) (T.faults out.new) }
 {
-    let mut reached = begun(ground.alloc, ground.rows, start)?;
-    let mut area = ground.rows.root_area(ground.alloc)?;
+    let ground = Ground {
+        alloc,
+        rows: sought.rows,
+        index: RowIndex::new(alloc, &sought.rows.program)?,
+        most: sought.rules.most,
+        given: sought.rules.given,
+        floors: sought.rules.floors,
+        budget: sought.budget,
+        may_leave,
+    };
+    let mut reached = begun(alloc, sought.rows, sought.start)?;
+    let mut area = sought.rows.root_area(alloc)?;
     let mut advisers = SearchAdvisers { hinter, guide };
-    let cap = search_box(ground, &mut area, &mut reached, &mut advisers, taker, out)?;
+    let cap = search_box(&ground, &mut area, &mut reached, &mut advisers, taker, out)?;
     let left_open = exceeds(cap, worth_of(&reached.best));
     let Reached { best, spent, .. } = reached;
     Ok(Ended {
@@ -129,24 +132,8 @@ pub fn search_guided_to<H: Hinter, G: Guide, O, T: NodeTaker<Rows, O>>(
     ensures later { T.faults out.old ≤ T.faults out.new }
     ensures failed { IsErrOf result TakeStop.Failed → Rose (T.faults out.old) (T.faults out.new) }
 {
-    let SearchRequest {
-        rows,
-        rules,
-        budget,
-        start,
-    } = *sought;
-    let ground = Ground {
-        alloc,
-        rows,
-        index: RowIndex::new(alloc, &rows.program)?,
-        most: rules.most,
-        given: rules.given,
-        floors: rules.floors,
-        budget,
-        may_leave: true,
-    };
-    let ended = search_root(&ground, start, hinter, guide, taker, out)?;
-    let exact = !ended.left_open || ended.spent == budget;
+    let ended = search_root(alloc, sought, true, hinter, guide, taker, out)?;
+    let exact = !ended.left_open || ended.spent == sought.budget;
     Ok(Guided { ended, exact })
 }
 
@@ -174,23 +161,7 @@ pub fn search_to<H: Hinter, G: Guide, O, T: NodeTaker<Rows, O>>(
     ensures later { T.faults out.old ≤ T.faults out.new }
     ensures failed { IsErrOf result TakeStop.Failed → Rose (T.faults out.old) (T.faults out.new) }
 {
-    let SearchRequest {
-        rows,
-        rules,
-        budget,
-        start,
-    } = *sought;
-    let ground = Ground {
-        alloc,
-        rows,
-        index: RowIndex::new(alloc, &rows.program)?,
-        most: rules.most,
-        given: rules.given,
-        floors: rules.floors,
-        budget,
-        may_leave: false,
-    };
-    search_root(&ground, start, hinter, guide, taker, out)
+    search_root(alloc, sought, false, hinter, guide, taker, out)
 }
 
 /// As `search`, with a guide that may leave boxes open though budget is left. The answer also says whether the count is exact.

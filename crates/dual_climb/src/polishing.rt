@@ -1,5 +1,5 @@
 //! Better certificates by one row's factor at a time.
-ghost use Rattle.std.specs.Prelude.{◌≡◌, ℕ, ◌+◌, ◌≤◌, ◌<◌, ◌^◌, ◌↔◌, ◌⊎◌, length, pos, ◌+ℤ◌, ◌≤ℤ◌, IsTrue, IsSome, IfOk, OnErr, Some, true, false, unsigned_abs};
+ghost use Rattle.std.specs.Prelude.{◌≡◌, ℕ, ◌+◌, ◌≤◌, ◌<◌, ◌^◌, ◌↔◌, ◌⊎◌, length, pos, ◌+ℤ◌, ◌≤ℤ◌, IsTrue, IsSome, IfOk, OnErr, Some, true, false};
 ghost use Rattle.std.specs.List.{All};
 ghost use Rattle.row_kit.specs.Area.{present};
 ghost use Rattle.row_kit.specs.Domain.{IsOpen};
@@ -7,15 +7,14 @@ ghost use Rattle.dual_bound.specs.Cap.{cert_cap, scaled_cap};
 ghost use Rattle.dual_bound.specs.Total.{total_at, IsUsable};
 ghost use Rattle.dual_climb.specs.Factors.{cert_of};
 ghost use Rattle.dual_climb.specs.Polished.{IsPolishedFrom, IsKeptOrLower, NeverRises, IsReached};
-ghost use Rattle.dual_climb.specs.RowBest.{BestBy, RowBestBy, RowBest};
+ghost use Rattle.dual_climb.specs.RowBest.{RowBestBy, RowBest};
 ghost use Rattle.dual_climb.specs.laws.Held.{IsHeld, CanMove};
 ghost use Rattle.dual_climb.specs.laws.Sums.{HaveSameSums, IsLoweredBy};
 
 use crate::factors::{gathered, spread};
 use crate::gains::gains_under;
 use crate::held::{Held, improve};
-use dual_bound::{Cert, MOST_MULTS, scaled, usable_total};
-use proof_tree::Capped;
+use dual_bound::{Cert, MOST_MULTS, usable_total};
 use row_kit::{Area, Program};
 use std::alloc::{AllocError, Global};
 
@@ -50,30 +49,6 @@ pub fn polish(
     if program.rows.len() > MOST_MULTS {
         return Ok(());
     }
-    polish_few(alloc, program, area, cert, stop)
-}
-
-// Lowers the total of a certificate over a program with no more rows than it may name.
-fn polish_few(
-    alloc: Global,
-    program: &Program,
-    area: &Area,
-    cert: &mut Cert,
-    stop: Option<i128>,
-) -> Result<(), AllocError>
-    requires slots { length (present area.now) ≡ length program.now.root }
-    requires scale { 1 ≤ cert.old.scale }
-    requires total { IsSome (total_at program.now (present area.now) cert.old) }
-    requires few_rows { length program.now.rows ≤ 50000 }
-    ensures scale { cert.new.scale ≡ cert.old.scale }
-    ensures total { NeverRises (total_at program.now (present area.now) cert.old)
-        (total_at program.now (present area.now) cert.new) }
-    ensures changes { IsPolishedFrom program.now (present area.now) cert.old cert.new }
-    ensures kept { IsKeptOrLower program.now (present area.now) cert.old cert.new }
-    ensures err { OnErr result (cert.new ≡ cert.old) }
-    ensures best { IfOk result (λ _. RowBest program.now (present area.now) cert.new
-        ⊎ IsReached stop (cert_cap program.now (present area.now) cert.new)) }
-{
     let mut held = hold(alloc, program, area, cert)?;
     if descend(program, area, cert.scale, stop, &mut held) {
         cert.mults = gathered(alloc, held.mults.as_slice())?;
@@ -158,58 +133,9 @@ pub fn pass(
 {
     let mut changed = false;
     for number in 0..program.rows.len() {
-        if step(program, area, scale, least_fall, stop, held, number) {
+        if improve(program, area, scale, least_fall, stop, held, number) {
             changed = true;
         }
     }
     changed
-}
-
-// Improves the factor of a row, unless the cap is reached; whether it changed.
-fn step(
-    program: &Program,
-    area: &Area,
-    scale: u32,
-    least_fall: u32,
-    stop: Option<i128>,
-    held: &mut Held,
-    number: usize,
-) -> bool
-    requires area { CanMove program.now (present area.now) scale }
-    requires scale { 1 ≤ scale }
-    requires some { 1 ≤ least_fall }
-    requires fall { least_fall ≤ 2 ^ 20 }
-    requires number { number < length program.now.rows }
-    requires held { IsHeld program.now (present area.now) scale held.old.mults.items
-        held.old.gains.lines.items held.old.gains.most.items held.old.total }
-    ensures held { IsHeld program.now (present area.now) scale held.new.mults.items
-        held.new.gains.lines.items held.new.gains.most.items held.new.total }
-    ensures fell { IsTrue result → (held.new.total +ℤ pos least_fall) ≤ℤ held.old.total }
-    ensures changes { IsLoweredBy least_fall program.now (present area.now) scale
-        held.old.mults.items held.new.mults.items }
-    ensures same { result ≡ false → (held.new.mults.items ≡ held.old.mults.items)
-        × (held.new.total ≡ held.old.total) }
-    ensures best { result ≡ false → BestBy least_fall program.now (present area.now)
-        (cert_of scale held.old.mults.items) number ⊎ IsReached stop
-        (scaled_cap scale (Some held.old.total)) }
-{
-    if is_reached(&held.total, scale, stop) {
-        return false;
-    }
-    improve(program, area, scale, least_fall, held, number)
-}
-
-// Whether the cap of a total is at most a number, where there is one to stop at.
-fn is_reached(total: &i128, scale: u32, stop: Option<i128>) -> bool
-    requires small { unsigned_abs total.now < 2 ^ 118 }
-    requires scale { 1 ≤ scale }
-    ensures { IsTrue result → IsReached stop (scaled_cap scale (Some total.now)) }
-{
-    let Some(stop) = stop else {
-        return false;
-    };
-    match scaled(*total, scale) {
-        Capped::AtMost(cap) => cap <= stop,
-        _ => false,
-    }
 }

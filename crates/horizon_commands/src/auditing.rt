@@ -12,7 +12,7 @@ ghost use Rattle.horizon_commands.specs.Seeking.{log_names};
 use answer_texts::numbered_defect;
 use command_replies::{Reply, Stopped, plant_in};
 use least_horizon::{StemVerdict, check_least};
-use log_check::CheckStop;
+use log_stops::CheckStop;
 use std::alloc::{AllocError, Global};
 use stn_edge::Shelf;
 use stn_model::Plant;

@@ -10,8 +10,8 @@ ghost use Rattle.store_frames.specs.Frames.{OnlyReads};
 ghost use Rattle.joined_parts.specs.laws.Divided.{IsDivided};
 
 use crate::heads::read_front;
-use log_check::CheckStop;
 use log_parts::{Checked, Declared, LogFront, LogHead, PartCheck, compared};
+use log_stops::CheckStop;
 use plant_check::check_part;
 use plant_parts::part_rows;
 use proof_log::{Claim, log_name};

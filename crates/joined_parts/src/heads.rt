@@ -11,8 +11,8 @@ ghost use Rattle.log_parts.specs.laws.Checked.{IsCounted, IsFrontKept, IsHeadFro
 ghost use Rattle.store_frames.specs.Frames.{OnlyReads};
 
 use derivation_lines::TailFront;
-use log_check::CheckStop;
 use log_parts::{LogFront, head_with, no_head};
+use log_stops::CheckStop;
 use plant_check::{limits_behind, limits_with, read_setups, read_tail};
 use row_kit::Program;
 use setup_lines::{SetupFront, Setups};

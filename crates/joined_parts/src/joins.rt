@@ -8,9 +8,8 @@ ghost use Rattle.proof_log.specs.LogNames.{log_name};
 ghost use Rattle.log_parts.specs.PartLogs.{IsJoiningIn, JoinSays, IsNo, LeavesJoin, AllAreValid};
 
 use crate::checking::check_parts;
-use log_parts::{
-    Checked, JoinStop, Joined, JoinedFront, PartLogs, joined, joined_version, write_joined,
-};
+use log_parts::{Checked, Joined, JoinedFront, PartLogs, joined, joined_version, write_joined};
+use log_stops::JoinStop;
 use std::alloc::Global;
 use stn_edge::Shelf;
 use stn_model::Plant;

@@ -11,8 +11,8 @@ ghost use Rattle.least_horizon.specs.Least.{NoneBelow};
 ghost use Rattle.least_horizon.specs.Stems.{objection, IsJudged, IsStemVerdict};
 ghost use Rattle.store_frames.specs.Frames.{OnlyReads};
 
-use log_check::CheckStop;
 use log_lines::Defect;
+use log_stops::CheckStop;
 use plant_check::check_stream;
 use proof_log::{Claim, log_name};
 use shorter_plant::plant_at;

@@ -13,7 +13,7 @@ ghost use Rattle.listing_commands.specs.Showing.{IsPlanText, PlanShown, TellsPla
 use crate::claimed::{claimed_plan, in_money};
 use answer_texts::{checked, claim_line};
 use command_replies::{Reply, Stopped, plant_in};
-use log_check::CheckStop;
+use log_stops::CheckStop;
 use plan_text::put_plan;
 use plant_check::check_stream;
 use proof_log::Claim;

@@ -1,8 +1,9 @@
 //! Logs that are checked over a program.
 use crate::defects::put_defect;
 use case_tables::{Sheet, Tried};
-use log_check::{CheckStop, check_behind, check_bytes, check_log, check_rows};
+use log_check::{check_behind, check_bytes, check_log, check_rows};
 use log_lines::Limits;
+use log_stops::CheckStop;
 use proof_log::{LogStop, read_log};
 use row_relax::Rows;
 use std::alloc::{AllocError, Global};

@@ -13,9 +13,7 @@ mod claims;
 mod course;
 mod log;
 mod points;
-mod stop;
 
 pub use bytes::check_bytes;
 pub use checking::{check_behind, check_rows};
 pub use log::check_log;
-pub use stop::CheckStop;

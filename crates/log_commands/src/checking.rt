@@ -11,7 +11,7 @@ ghost use Rattle.log_commands.specs.Checking.{Checked};
 
 use answer_texts::checked;
 use command_replies::{Reply, Stopped, plant_in};
-use log_check::CheckStop;
+use log_stops::CheckStop;
 use plant_check::check_stream;
 use std::alloc::Global;
 use stn_edge::Shelf;

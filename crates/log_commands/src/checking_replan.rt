@@ -19,7 +19,7 @@ use answer_texts::{broken, checked};
 use command_replies::{Reply, Stopped, plan_in, plant_in};
 use command_words::Period;
 use frozen_plan::{Keeping, keep};
-use log_check::CheckStop;
+use log_stops::CheckStop;
 use plant_check::check_kept;
 use row_kit::Program;
 use std::alloc::Global;

@@ -1,6 +1,6 @@
 -- Two logs that are read on, side by side.
-use Rattle.std.proofs.Common.{◌≡◌, ◌≤◌, ℕ, List, Option, Some, sym, subst}
-use Rattle.std.specs.Prelude.{Bool, IsTrue, IfSome}
+use Rattle.std.proofs.Common.{◌≡◌, ◌≤◌, ℕ, List, Option, sym, subst}
+use Rattle.std.specs.Prelude.{Bool, IsTrue}
 use Rattle.stn_edge.specs.Files.{FileMap}
 use Rattle.stn_edge.specs.declared.shelf.Shelf.{Ghosts}
 use Rattle.row_relax.specs.declared.rows.Rows.{Rows}
@@ -10,10 +10,6 @@ use Rattle.store_frames.specs.Frames.{OnlyReads}
 use Rattle.log_nodes.specs.Reading.{IsReading}
 use Rattle.log_growth.specs.declared.way.Readers.{Readers}
 use Rattle.log_growth.specs.laws.Grown.{CanGrow}
-
--- what is so of that which there is
-pub at-some : {X : Type 0} (P : X → Type 0) {o : Option X} {x : X} → o ≡ Some x → IfSome o P → P x
-at-some {X} P is has = subst (λ (told : Option X). IfSome told P) is has
 
 -- a call that leaves all this of its store only reads
 pub only-reads : {F : Type 0} {S : Ghosts F} {old new : F} → S.files new ≡ S.files old → S.may_read new ≡ S.may_read old → S.may_write new ≡ S.may_write old → S.read_faults old ≤ S.read_faults new → S.write_faults new ≡ S.write_faults old → OnlyReads S old new

@@ -1,22 +1,24 @@
 //! Two proofs read side by side.
-ghost use Rattle.std.specs.Prelude.{◌≡◌, ◌<◌, ◌+◌, length, map, take, if◌then◌else◌, Some, Err, IfOk, IfSome};
+ghost use Rattle.std.specs.Prelude.{◌≡◌, ◌<◌, length, map, if◌then◌else◌, None, Err, IfOk, IfSome};
 ghost use Rattle.stn_edge.specs.Count.{Rose};
-ghost use Rattle.proof_tree.specs.Views.{MovesTo, present};
-ghost use Rattle.row_relax.specs.Steps.{row_steps};
 ghost use Rattle.row_relax.specs.View.{Fits, view_of};
 ghost use Rattle.store_frames.specs.Frames.{OnlyReads};
 ghost use Rattle.log_growth.specs.laws.Counts.{IsSplitSum};
 ghost use Rattle.log_growth.specs.laws.Grown.{CanGrow, HasGrown, HaveReadOn};
+ghost use Rattle.log_growth.specs.laws.Opened.{growing, part_of};
 ghost use Rattle.log_nodes.specs.laws.Seen.{seen};
+ghost use Rattle.open_splits.specs.laws.Behind.{HasGoneOn};
 
 use crate::counting::{both, with_split};
 use crate::counts::Growth;
 use crate::nodes::grown_here;
-use crate::way::{Met, OpenSplit, Place, Readers, Way};
+use crate::way::{Kept, Place, Readers};
 use log_nodes::{Pair, sum_of};
+use open_splits::{Met, OpenSplit, Way, turn};
 use proof_tree::{Relaxation, Stack};
 use row_kit::Area;
 use row_relax::Rows;
+use std::alloc::AllocError;
 use stn_edge::{Shelf, Stop};
 
 /// Reads two proofs over an area side by side; none where the second does not go on from the first. Else the area is afterwards as
@@ -39,6 +41,7 @@ pub fn grown<F: Shelf>(
     ensures fault { result ≡ Err Stop.Failed
         → Rose (F.read_faults files.old) (F.read_faults files.new) }
 {
+    let mark = pair.rows.mark(area);
     let mut splits = Stack::new(readers.alloc);
     let mut way = Way::Down(place);
     'steps: loop {
@@ -48,96 +51,73 @@ pub fn grown<F: Shelf>(
                 Some(Met::End(growth)) => way = Way::Up(growth),
                 Some(Met::Split(split)) => {
                     splits.push(split)?;
-                    way = Way::Down(part_of(below, below.number));
+                    way = Way::Down(left_of(&split));
                 }
             },
             Way::Up(growth) => {
                 let Some(split) = splits.take_top() else {
+                    pair.rows.back(area, mark);
                     return Ok(Some(growth));
                 };
-                match split.left {
-                    Some(left) => match close(pair.rows, area, &split, left, growth) {
-                        Some(whole) => way = Way::Up(whole),
-                        None => return Ok(None),
-                    },
-                    None => {
-                        let Some(number) = sum_of(split.place.number, growth.ends) else {
-                            return Ok(None);
-                        };
-                        if !turn(pair.rows, area, &split) {
-                            return Ok(None);
-                        }
-                        splits.push(turned(split, growth))?;
-                        way = Way::Down(part_of(split.place, number));
-                    }
+                match go_on(pair.rows, area, &mut splits, split, growth)? {
+                    Some(next) => way = next,
+                    None => return Ok(None),
                 }
             }
         }
     }
 }
 
-// Where a part of a split stands, whose first open end has this number.
-fn part_of(place: Place, number: u64) -> Place
-    requires { place.depth < 4294967295 }
-    ensures { result ≡ record {
-      depth = place.depth + 1;
-      number = number;
-    } }
+// Where the left part of a split stands.
+fn left_of(split: &OpenSplit<Kept, Growth>) -> Place
+    ensures { result ≡ part_of split.now None }
 {
     Place {
-        depth: place.depth + 1,
-        number,
+        depth: split.below,
+        number: split.kept.number,
     }
 }
 
-// Narrows an area below the left part of a split to its right part; false where it has none.
-fn turn(rows: &Rows, area: &mut Area, split: &OpenSplit) -> bool
-    requires fits { Fits rows.now.program (seen area.old) }
-    requires within { split.now.mark < length (map view_of area.old) }
-    ensures fits { Fits rows.now.program (seen area.new) }
-    ensures moves { MovesTo ((row_steps rows.now.program).right
-        (present (take (split.now.mark + 1) (map view_of area.old))) split.now.pick)
-        (take (split.now.mark + 1) (map view_of area.old)) (map view_of area.new) result }
-{
-    rows.back(area, split.mark);
-    rows.right(area, &split.pick)
-}
-
-// The split, once its left part is read, which has these counts.
-fn turned(split: OpenSplit, left: Growth) -> OpenSplit
-    ensures { result ≡ record {
-      place = split.place;
-      before = split.before;
-      mark = split.mark;
-      pick = split.pick;
-      above = split.above;
-      left = Some left;
-    } }
-{
-    OpenSplit {
-        left: Some(left),
-        ..split
-    }
-}
-
-// Makes an area what it was at the node of a split whose parts are read, which have these counts; its own, where they are numbers of
-// 64 bits.
-fn close(
+// Goes on behind a part of a split, which has these counts: it closes the split, or turns to its right part. None where a count is no
+// number of 64 bits, or the split has no right part.
+fn go_on(
     rows: &Rows,
     area: &mut Area,
-    split: &OpenSplit,
-    left: Growth,
-    right: Growth,
-) -> Option<Growth>
+    splits: &mut Stack<OpenSplit<Kept, Growth>>,
+    split: OpenSplit<Kept, Growth>,
+    growth: Growth,
+) -> Result<Option<Way<Place, Growth>>, AllocError>
     requires fits { Fits rows.now.program (seen area.old) }
-    requires within { split.now.before < length (map view_of area.old) }
+    requires within { split.mark < length (map view_of area.old) }
     ensures fits { Fits rows.now.program (seen area.new) }
-    ensures views { map view_of area.new ≡ take (split.now.before + 1) (map view_of area.old) }
-    ensures counts { IfSome result (IsSplitSum (if split.now.above then 1 else 0) left right) }
+    ensures gone { (pair : _) (told : _) → IfOk result (λ next. IfSome next (HasGoneOn
+        rows.now.program (growing pair told) split growth splits.old splits.new
+        (map view_of area.old) (map view_of area.new))) }
 {
-    rows.back(area, split.before);
+    if let Some(left) = split.left {
+        return match closed(split.kept.above, left, growth) {
+            Some(whole) => Ok(Some(Way::Up(whole))),
+            None => Ok(None),
+        };
+    }
+    let Some(number) = sum_of(split.kept.number, growth.ends) else {
+        return Ok(None);
+    };
+    if !turn(rows, area, splits, split, growth)? {
+        return Ok(None);
+    }
+    Ok(Some(Way::Down(Place {
+        depth: split.below,
+        number,
+    })))
+}
+
+// The counts of a split, from those of its parts, where they are numbers of 64 bits; its floor may be above the profit.
+fn closed(above: bool, left: Growth, right: Growth) -> Option<Growth>
+    ensures { IfSome result (IsSplitSum (if above then 1 else 0) left right) }
+{
     match both(left, right) {
-        Some(parts) => with_split(split.above, parts),
+        Some(parts) => with_split(above, parts),
         None => None,
     }
 }

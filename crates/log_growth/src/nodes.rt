@@ -5,20 +5,22 @@ ghost use Rattle.range_prop.specs.declared.row_cut.RowCut.{RowCut};
 ghost use Rattle.row_relax.specs.View.{Fits, view_of};
 ghost use Rattle.log_growth.specs.declared.way.Readers.{Readers};
 ghost use Rattle.log_growth.specs.laws.Grown.{CanGrow, HasGrownBelow, HasGrownNode, HaveReadOn};
-ghost use Rattle.log_growth.specs.laws.Opened.{HasMet, HasOpenedSplit};
+ghost use Rattle.log_growth.specs.laws.Opened.{HasOpenedSplit, growing};
 ghost use Rattle.log_nodes.specs.OpenEnds.{in_share};
 ghost use Rattle.log_nodes.specs.Reading.{IsReading};
 ghost use Rattle.log_nodes.specs.laws.Nodes.{IsLeafEnd};
 ghost use Rattle.log_nodes.specs.laws.Seen.{seen};
+ghost use Rattle.open_splits.specs.laws.Behind.{HasMet};
 ghost use Rattle.store_frames.specs.Frames.{OnlyReads};
 
 use crate::counting::{is_deep_end, leaf_growth};
 use crate::counts::Growth;
-use crate::way::{Met, OpenSplit, Place, Readers};
+use crate::way::{Kept, Place, Readers};
 use log_nodes::{
     Ending, Node, Pair, begins_with, cut_down, in_share, is_open, is_same_node, leaves_open,
     read_node, skip_below,
 };
+use open_splits::{Met, OpenSplit};
 use proof_tree::{Relaxation, floor_cap};
 use row_kit::Area;
 use stn_edge::{Shelf, Stop};
@@ -31,10 +33,11 @@ pub fn grown_here<F: Shelf>(
     readers: &mut Readers,
     area: &mut Area,
     place: Place,
-) -> Result<Option<Met>, Stop>
+) -> Result<Option<Met<Kept, Growth>>, Stop>
     requires can { CanGrow F.Shelf files.old pair.log.now pair.out.now readers.old
         pair.rows.now (seen area.old) }
-    ensures met { IfOk result (λ met. IfSome met (HasMet pair.entry (F.files files.old) place
+    ensures met { IfOk result (λ met. IfSome met (HasMet pair.entry.rows.now.program
+        (growing pair.entry (F.files files.old)) pair.entry.most place.depth place
         (map view_of area.old) (map view_of area.new) readers.old readers.new)) }
     ensures log_reading { IfOk result (λ met. IfSome met (λ _.
         IsReading (F.files files.old) pair.entry.log.now readers.new.log)) }
@@ -72,10 +75,11 @@ fn open_split(
     place: Place,
     node: &Node,
     other: &Node,
-) -> Option<OpenSplit>
+) -> Option<OpenSplit<Kept, Growth>>
     requires { Fits pair.now.rows.now.program (seen area.old) }
-    ensures { IfSome result (HasOpenedSplit pair.now place node.now other.now
+    ensures opened { IfSome result (HasOpenedSplit pair.now place node.now other.now
         (map view_of area.old) (map view_of area.new)) }
+    ensures fits { Fits pair.now.rows.now.program (seen area.new) }
 {
     let Ending::Split(pick, cert) = &node.end else {
         return None;
@@ -83,23 +87,15 @@ fn open_split(
     if place.depth >= pair.most || !is_same_node(node, other) {
         return None;
     }
-    let before = pair.rows.mark(area);
     if !cut_down(pair.rows, area, node.cuts.as_slice()) {
         return None;
     }
     let floor = floor_cap(pair.rows.trim(area, pick, cert));
-    let mark = pair.rows.mark(area);
-    if !pair.rows.left(area, pick) {
-        return None;
-    }
-    Some(OpenSplit {
-        place,
-        before,
-        mark,
-        pick: *pick,
+    let kept = Kept {
+        number: place.number,
         above: leaves_open(&pair.profit, floor),
-        left: None,
-    })
+    };
+    open_splits::open_split(pair.rows, area, place.depth, pick, kept)
 }
 
 // Reads on at a node that does not split, and makes the area what it was again.

@@ -1,8 +1,7 @@
-//! The way down two proofs that are read side by side.
+//! Two proofs that are read side by side, and the way down them.
 
 use crate::counts::Growth;
 use proof_log::LogReader;
-use row_relax::RowPick;
 use std::alloc::Global;
 
 /// Both logs, as far as they were read, and what gives memory for more of them.
@@ -22,36 +21,11 @@ pub struct Place {
     pub number: u64,
 }
 
-/// A split that was read in both logs and is not closed yet.
+/// What is kept of a split that was read in both logs.
 #[derive(Clone, Copy)]
-pub struct OpenSplit {
-    /// Where it stands.
-    pub place: Place,
-    /// The mark of the area at its node.
-    pub before: u32,
-    /// The mark of the area that it divides: what it has not forgotten.
-    pub mark: u32,
-    pub pick: RowPick,
+pub struct Kept {
+    /// The number of the first open end below it.
+    pub number: u64,
     /// Whether its floor is above the profit, that counts as a cap.
     pub above: bool,
-    /// The counts of its left part, once that is read.
-    pub left: Option<Growth>,
-}
-
-/// What was read at a node of both logs.
-#[derive(Clone, Copy)]
-pub enum Met {
-    /// An end of the old one, with what stands in its place, and their counts.
-    End(Growth),
-    /// A split, in whose left part the next node stands.
-    Split(OpenSplit),
-}
-
-/// Where reading goes on.
-#[derive(Clone, Copy)]
-pub enum Way {
-    /// At a node.
-    Down(Place),
-    /// Behind a node that is read, with all below it; their counts.
-    Up(Growth),
 }

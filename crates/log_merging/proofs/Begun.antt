@@ -24,8 +24,8 @@ use Rattle.log_parts.specs.Heads.{front_text, joined_version}
 use Rattle.log_parts.specs.Joining.{plan_of}
 use Rattle.log_parts.specs.PartLogs.{logs_of, no_tree}
 use Rattle.log_parts.specs.laws.Copying.{HasItems, IsFinished, name_of, whole_text}
-use Rattle.log_parts.proofs.Copies.{read_stays, same_file}
-use Rattle.log_resuming.specs.Resumed.{profit_of}
+use Rattle.log_nodes.proofs.Stays.{read_stays, same_file}
+use Rattle.opened_logs.specs.Claims.{profit_of}
 use Rattle.merged_nodes.specs.declared.sources.Source.{Source}
 use Rattle.merge_ends.specs.declared.readers.Work.{Work}
 use Rattle.merged_nodes.specs.Merged.{IsMerged}

@@ -42,13 +42,13 @@ use Rattle.log_parts.specs.laws.Copying.{whole_text}
 use Rattle.log_parts.specs.Heads.{front_text, items_of, joined_version, lines_on}
 use Rattle.log_parts.specs.Joining.{IsBestCap, IsBestPlan, IsCapped, IsJoined, cap_of, claim_with, plan_of}
 use Rattle.log_parts.specs.PartLogs.{logs_of, no_tree}
-use Rattle.log_parts.proofs.Copies.{same_file}
+use Rattle.log_nodes.proofs.Stays.{same_file}
 use Rattle.log_parts.proofs.HeadsDiffer.{no_other}
 use Rattle.log_parts.proofs.JoinedClaims.{by-less, seam}
 use Rattle.log_parts.proofs.PartTrees.{one_head}
-use Rattle.log_resuming.specs.declared.opened.Opened.{Opened}
-use Rattle.log_resuming.specs.Opened.{IsOpened, IsOpenedOver, front_of}
-use Rattle.log_resuming.specs.Resumed.{IsNoMore, IsOpenClaim, profit_of, cap_of as resumed_cap}
+use Rattle.opened_logs.specs.declared.opened.Opened.{Opened}
+use Rattle.opened_logs.specs.Opened.{IsOpened, IsOpenedOver, front_of}
+use Rattle.opened_logs.specs.Claims.{IsNoMore, IsOpenClaim, profit_of, cap_of as resumed_cap}
 use Rattle.merge_checks.specs.declared.checked.Checked.TheVariants.{Bad as BadLogs}
 use Rattle.merge_checks.specs.declared.checked.Logs.{Logs}
 use Rattle.log_merging.specs.declared.merged.Merged.{Merged}

@@ -19,9 +19,9 @@ use Rattle.log_parts.specs.declared.joining.ClaimedPlan.{ClaimedPlan}
 use Rattle.log_parts.specs.Heads.{HasNewest, declared_text, joined_version}
 use Rattle.log_parts.specs.Joining.{IsBestCap, IsBestPlan, cap_of}
 use Rattle.log_parts.specs.PartLogs.{logs_of, no_tree}
-use Rattle.log_resuming.specs.declared.opened.Opened.{Opened}
-use Rattle.log_resuming.specs.Opened.{IsOpened, front_of}
-use Rattle.log_resuming.specs.Resumed.{IsNoMore, IsOpenClaim}
+use Rattle.opened_logs.specs.declared.opened.Opened.{Opened}
+use Rattle.opened_logs.specs.Opened.{IsOpened, front_of}
+use Rattle.opened_logs.specs.Claims.{IsNoMore, IsOpenClaim}
 use Rattle.log_merging.specs.declared.merged.Merged.{Merged}
 use Rattle.log_merging.specs.declared.merged.Merged.TheVariants.{Done, No}
 use Rattle.merged_nodes.specs.Merged.{IsMerged}

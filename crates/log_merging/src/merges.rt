@@ -15,10 +15,11 @@ ghost use Rattle.merge_checks.specs.laws.Checked.{AreCheckedTo, AreKnownTo};
 
 use crate::merged::Merged;
 use crate::writing::write_merged;
-use log_parts::{JoinStop, joined};
-use log_resuming::cap_of;
+use log_parts::joined;
+use log_stops::JoinStop;
 use merge_checks::{Checked, Logs, check_logs};
 use merge_ends::{Work, in_order, is_same_claim, suits};
+use opened_logs::cap_of;
 use plant_check::check_stream;
 use proof_log::Claim;
 use std::alloc::Global;

@@ -8,11 +8,12 @@ ghost use Rattle.store_frames.specs.Frames.{ReadsAndWritesOne};
 ghost use Rattle.merged_nodes.specs.laws.Looked.{AreApart, AreReading, MayReadAll};
 ghost use Rattle.log_merging.specs.laws.Written.{HasMergedWhole, HasWritten};
 
-use log_parts::{JoinStop, begin_log, joined_version};
-use log_resuming::profit_of;
+use log_parts::{begin_log, joined_version};
+use log_stops::JoinStop;
 use merge_ends::{Work, begin_all, claim_with_cap, end_log, read_ends};
 use merge_walk::merge_node;
 use merged_nodes::{Merging, Source};
+use opened_logs::profit_of;
 use proof_log::{Claim, LogWriter};
 use proof_tree::Capped;
 use std::alloc::Global;

@@ -3,3 +3,4 @@ pub mod Parts
 pub mod Readings
 pub mod Skipped
 pub mod Walking
+pub mod Stays

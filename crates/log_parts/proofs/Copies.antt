@@ -27,37 +27,9 @@ use Rattle.proof_log.specs.Gathered.{lines_at, tail_lines, IsFresh}
 use Rattle.proof_log.specs.Text.{rest_defect}
 use Rattle.proof_log.specs.LogReading.{HasRead, IsPartAfter}
 use Rattle.proof_log.proofs.OneText.{logs_same, items_read}
+use Rattle.log_nodes.proofs.Stays.{read_stays}
 use Rattle.log_parts.proofs.Writes.{text_more}
 use Rattle.log_parts.specs.laws.Copying.{name_of, HasItems, IsBegun, IsLogOf, HasCopied, HasBrokenOff}
-
--- the same file is there under another name's change
-pub same_file : (name : List ℕ) (old new : Option FileMap) → option_map (λ (m : FileMap). get m name) new ≡ option_map (λ (m : FileMap). get m name) old → option_map (λ (m : FileMap). file_of m name) new ≡ option_map (λ (m : FileMap). file_of m name) old
-same_file name None None same = refl
-same_file name None (Some n) same = absurd cc
-same_file name (Some m) None same = absurd cc
-same_file name (Some m) (Some n) same =
-    let here : get n name ≡ get m name = cc in ap (λ (found : Option (List ℕ)). Some (unwrap_or found [])) here
-
--- what is said of a file's bytes stays where the file does
-stays_said : (P : List ℕ → Type 0) (name : List ℕ) (old new : Option FileMap) → option_map (λ (m : FileMap). file_of m name) new ≡ option_map (λ (m : FileMap). file_of m name) old → IfSome old (λ m. P (file_of m name)) → IfSome new (λ m. P (file_of m name))
-stays_said P name None None same is = tt
-stays_said P name None (Some n) same is = absurd cc
-stays_said P name (Some m) None same is = absurd cc
-stays_said P name (Some m) (Some n) same is =
-    let here : file_of m name ≡ file_of n name = cc in subst P here is
-
--- what a reader has read of a file it has read where the file stays
-pub read_stays : (version head : ℕ) (name : List ℕ) (limits : Limits) (items : List RowItem) (claim : Option Claim) (r : LogReader) (old new : Option FileMap)
-    → option_map (λ (m : FileMap). file_of m name) new ≡ option_map (λ (m : FileMap). file_of m name) old → HasRead old name version head limits items claim r → HasRead new name version head limits items claim r
-read_stays version head name limits items claim r old new same read = record {
-  lines = read.lines;
-  gathered = read.gathered;
-  limited = read.limited;
-  read = stays_said (λ (bytes : List ℕ). behind version head bytes ≡ lines_text read.lines ++ drop r.lines.place bytes) name old new same read.read;
-  left = stays_said (λ (bytes : List ℕ). log_text_defect limits (behind version head bytes) ≡ rest_defect limits r.gatherer.grammar (1 + length read.lines) (drop r.lines.place bytes)) name old new same read.left;
-  ahead = stays_said (λ (bytes : List ℕ). IsAhead bytes r.lines.place r.lines.ahead) name old new same read.ahead;
-  going = read.going;
-}
 
 -- the items whose lines stand in front of the text of a log are its first items
 front_at : (limits : Limits) (version : ℕ) (p : Place) (group : Group) (claim : Option Claim) (bytes rest : List ℕ) (tree : RowTree) (items : List RowItem) (lines : List Line) → IsLogOf limits bytes tree → All (IsOver limits.points) items → IsFresh p items

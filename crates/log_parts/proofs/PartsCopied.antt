@@ -13,7 +13,8 @@ use Rattle.proof_log.specs.LogNames.{log_name}
 use Rattle.proof_log.specs.declared.writer.LogWriter.{LogWriter}
 use Rattle.log_parts.specs.PartLogs.{no_mults, no_tree, tree_over}
 use Rattle.log_parts.specs.laws.Copying.{name_of, split_items, items_over, bodies_of, HasItems, IsBegun, IsLogOf, AreLogsOf, HasCopied, HasBrokenOff, HasJoined, HasJoinBroken}
-use Rattle.log_parts.proofs.Copies.{same_file, begun_longer}
+use Rattle.log_nodes.proofs.Stays.{same_file}
+use Rattle.log_parts.proofs.Copies.{begun_longer}
 
 -- ---- the tree over slots
 

@@ -59,19 +59,6 @@ begun_more front before after items added is broke =
     subst (λ (name : List ℕ). IsBegun front name after.files (items ++ added)) broke.keeps.name
     (begun_at after.name after.files broke.part.0 (lines_text (flat_map item_lines added)) (begun_text front items) (begun_text front (items ++ added)) (whole before) broke.part.1 is (text_more front items added))
 
-others_cleared : (name other : List ℕ) (files : Option FileMap) → other ≢ name → option_map (λ (m : FileMap). get m other) (option_map (cleared name) files) ≡ option_map (λ (m : FileMap). get m other) files
-others_cleared name other None apart = refl
-others_cleared name other (Some files) apart = ap Some (get-cleared_other name files other apart)
-
--- a file that may have been cleared leaves the others
-pub clear_stays : (name : List ℕ) (old new : Option FileMap) → MayClear name old new → OthersStay name old new
-clear_stays name old new (inl same) other apart = ap (option_map (λ (m : FileMap). get m other)) same
-clear_stays name old new (inr is) other apart = ap (option_map (λ (m : FileMap). get m other)) is ∙ others_cleared name other old apart
-
--- a file that was cleared
-pub cleared_stays : (name : List ℕ) (old new : Option FileMap) → new ≡ option_map (cleared name) old → OthersStay name old new
-cleared_stays name old new is = clear_stays name old new (inr is)
-
 -- where the claim was not written, or in part, the file is a first part of the log
 pub finish_broken : (front : List ℕ) (before after : Writing) (items : List RowItem) (claim : Claim) → IsWhole before (begun_text front items) → Broke before after (lines_text (claim_lines claim ++ End ∷ [])) → IsFinishedInPart front before.name items claim after.files
 finish_broken front before after items claim is broke =

@@ -6,8 +6,8 @@ ghost use Rattle.row_relax.specs.RowProofs.{RowItem};
 ghost use Rattle.store_frames.specs.Frames.{ReadsAndWritesOne};
 ghost use Rattle.log_parts.specs.laws.Copying.{name_of, HasItems, IsBegun, HasCopied, HasBrokenOff};
 
-use crate::joins::JoinStop;
 use log_lines::{Defect, Limits};
+use log_stops::JoinStop;
 use proof_log::{LogPart, LogReader, LogWriter};
 use proof_tree::{Item, NodeTaker, TakeStop};
 use row_relax::Rows;

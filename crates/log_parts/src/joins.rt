@@ -1,11 +1,6 @@
-//! What joining the logs of all parts comes to, and why it may stop.
-ghost use Rattle.std.specs.Prelude.{◌≡◌};
-
-use log_check::CheckStop;
+//! What joining the logs of all parts comes to.
 use log_lines::Defect;
 use proof_log::Claim;
-use std::alloc::AllocError;
-use stn_edge::Stop;
 
 /// What joining the logs of all parts comes to.
 #[derive(Drop)]
@@ -16,51 +11,4 @@ pub enum Joined {
     /// log has another head than that of part 0, at the line on which the first sum, setup, cut or row that differs begins, or line
     /// 1 where one head is a first part of the other.
     No { part: u32, defect: Defect },
-}
-
-/// Why the logs were not joined.
-#[derive(Clone, Copy, PartialEq, Eq, Debug)]
-pub enum JoinStop {
-    /// A log could not be read.
-    ReadFault,
-    /// The joined log could not be written.
-    WriteFault,
-    /// There was no memory.
-    Memory,
-}
-
-impl From<Stop> for JoinStop {
-    ghost use Rattle.log_parts.specs.laws.Stops.{read_stop};
-
-    ghost from_gives = { λ stop given. given ≡ read_stop stop };
-
-    fn from(stop: Stop) -> JoinStop {
-        match stop {
-            Stop::Failed => JoinStop::ReadFault,
-            Stop::Memory => JoinStop::Memory,
-        }
-    }
-}
-
-impl From<CheckStop> for JoinStop {
-    ghost use Rattle.log_parts.specs.laws.Stops.{check_stop};
-
-    ghost from_gives = { λ stop given. given ≡ check_stop stop };
-
-    fn from(stop: CheckStop) -> JoinStop {
-        match stop {
-            CheckStop::Fault => JoinStop::ReadFault,
-            CheckStop::Memory => JoinStop::Memory,
-        }
-    }
-}
-
-impl From<AllocError> for JoinStop {
-    ghost use Rattle.log_parts.specs.declared.joins.JoinStop.TheVariants.{Memory};
-
-    ghost from_gives = { λ _ stop. stop ≡ Memory };
-
-    fn from(_error: AllocError) -> JoinStop {
-        JoinStop::Memory
-    }
 }

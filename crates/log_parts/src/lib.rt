@@ -20,7 +20,7 @@ pub use copying::put_item;
 pub use fronts::{PartCheck, compared, declares_same, head_with, no_head, other_head};
 pub use heads::{Declared, LogFront, LogHead};
 pub use joining::{ClaimedPlan, claim_with, joined, plan_of};
-pub use joins::{JoinStop, Joined};
+pub use joins::Joined;
 pub use writing::{
     JoinedFront, PartLogs, begin_log, finish_log, head_text, joined_version, write_joined,
 };

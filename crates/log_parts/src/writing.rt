@@ -31,10 +31,11 @@ ghost use Rattle.log_parts.specs.laws.Checked.{MayDeclare, head_limits, part_lim
 use crate::completing::larger_claim;
 use crate::copying::{copy_log, put_item};
 use crate::heads::Declared;
-use crate::joins::{JoinStop, Joined};
+use crate::joins::Joined;
 use derivation_lines::put_derivations;
 use dual_bound::Cert;
 use log_lines::{Defect, Limits, Line, put_line};
+use log_stops::JoinStop;
 use proof_log::{Claim, LogWriter, log_name};
 use proof_tree::Item;
 use row_kit::List;

@@ -12,14 +12,15 @@ use Rattle.log_growth.specs.declared.counts.Growth.{Growth}
 use Rattle.log_nodes.specs.declared.pair.Share.{Share}
 use Rattle.log_growth.specs.Logs.{AreGrown}
 use Rattle.log_parts.specs.declared.heads.LogHead.{LogHead}
-use Rattle.log_parts.proofs.Copies.{same_file}
+use Rattle.log_nodes.proofs.Stays.{same_file}
 use Rattle.valid_log.specs.declared.verdict.LogVerdict.TheVariants.{Yes, No as NotValid}
 use Rattle.valid_log.specs.PlantLogs.{IsAnyChecked}
-use Rattle.log_resuming.specs.declared.opened.Opened.{Opened}
+use Rattle.opened_logs.specs.declared.opened.Opened.{Opened}
 use Rattle.log_resuming.specs.declared.resumed.Resumed.{Resumed}
 use Rattle.log_resuming.specs.declared.resumed.Resumed.TheVariants.{Done, No}
-use Rattle.log_resuming.specs.Opened.{IsOpened, front_of}
-use Rattle.log_resuming.specs.Resumed.{IsNoLess, IsNoMore, IsOpenClaim, IsResumed, IsResuming, IsResumingIn, LeavesResumed, cap_of, profit_of}
+use Rattle.opened_logs.specs.Opened.{IsOpened, front_of}
+use Rattle.opened_logs.specs.Claims.{IsNoLess, IsNoMore, IsOpenClaim, cap_of, profit_of}
+use Rattle.log_resuming.specs.Resumed.{IsResumed, IsResuming, IsResumingIn, LeavesResumed}
 use Rattle.log_resuming.specs.laws.Judged.{IsMeasured, Judges}
 
 -- both logs were read side by side, and the counts and the claims are right

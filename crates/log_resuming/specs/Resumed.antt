@@ -1,6 +1,5 @@
 -- When a log is one that goes on from another.
 use Rattle.std.specs.Prelude.{◌≡◌, ◌⊎◌, ◌+◌, ◌≤◌, ⊤, ℕ, ℤ, ◌≤ℤ◌, List, Option, Some, None, IfSome}
-use Rattle.std.specs.Option.{IsSomeAnd}
 use Rattle.stn_edge.specs.Files.{FileMap, file_of}
 use Rattle.stn_model.specs.Points.{depth_limit}
 use Rattle.stn_model.specs.declared.plant.Plant.{Plant}
@@ -8,7 +7,6 @@ use Rattle.row_relax.specs.RowProofs.{RowTree}
 use Rattle.row_relax.specs.View.{view_of}
 use Rattle.branch_tree.specs.Searched.{IsSearchable}
 use Rattle.proof_log.specs.declared.claim.Claim.{Claim}
-use Rattle.proof_log.specs.declared.claim.Claim.TheVariants.{Optimal, Infeasible, Between, Below}
 use Rattle.log_growth.specs.declared.counts.Growth.{Growth}
 use Rattle.log_nodes.specs.declared.pair.Share.{Share}
 use Rattle.log_growth.specs.Growth.{IsGrowth}
@@ -16,39 +14,11 @@ use Rattle.log_nodes.specs.Texts.{IsTextBehind}
 use Rattle.valid_log.specs.declared.verdict.LogVerdict.TheVariants as verdict
 use Rattle.valid_log.specs.Claims.{SaysOfPlans}
 use Rattle.valid_log.specs.PlantLogs.{IsAnyChecked}
-use Rattle.log_resuming.specs.declared.opened.Opened.{Opened}
+use Rattle.opened_logs.specs.declared.opened.Opened.{Opened}
 use Rattle.log_resuming.specs.declared.resumed.Resumed.{Resumed}
 use Rattle.log_resuming.specs.declared.resumed.Resumed.TheVariants.{Done, No}
-use Rattle.log_resuming.specs.Opened.{IsOpened, front_of}
-
--- the profit of a claim's plan, if it has one
-abbrev pub profit_of : Claim → Option ℤ
-profit_of (Optimal profit point) = Some profit
-profit_of Infeasible = None
-profit_of (Between profit most point) = Some profit
-profit_of (Below most) = None
-
--- the number above which a claim says that no plan earns, if it allows any
-abbrev pub cap_of : Claim → Option ℤ
-cap_of (Optimal profit point) = Some profit
-cap_of Infeasible = None
-cap_of (Between profit most point) = Some most
-cap_of (Below most) = Some most
-
--- a profit is at least another; where there is no other it may be none
-abbrev pub IsNoLess : Option ℤ → Option ℤ → Type 0
-IsNoLess old new = IfSome old (λ least. IsSomeAnd new (λ profit. least ≤ℤ profit))
-
--- a cap is at most another; where there is no other there is none
-abbrev pub IsNoMore : Option ℤ → Option ℤ → Type 0
-IsNoMore old new = IfSome new (λ cap. IsSomeAnd old (λ most. cap ≤ℤ most))
-
--- a claim leaves something open
-abbrev pub IsOpenClaim : Claim → Type 0
-IsOpenClaim (Optimal profit point) = ⊥
-IsOpenClaim Infeasible = ⊥
-IsOpenClaim (Between profit most point) = ⊤
-IsOpenClaim (Below most) = ⊤
+use Rattle.opened_logs.specs.Opened.{IsOpened, front_of}
+use Rattle.opened_logs.specs.Claims.{IsNoLess, IsNoMore, IsOpenClaim, cap_of, profit_of}
 
 -- Two valid logs of a plant, of which the second goes on from the first with at most so many boxes more. It has the head of the first, in
 -- version 4. Its proof is that of the first, where proofs may stand in the place of open ends of the share; open is an end whose cap is above

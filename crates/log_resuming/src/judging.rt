@@ -6,18 +6,18 @@ ghost use Rattle.stn_edge.specs.Files.{file_of};
 ghost use Rattle.stn_model.specs.Sound.{Sound};
 ghost use Rattle.branch_tree.specs.Searched.{IsSearchable};
 ghost use Rattle.valid_log.specs.Claims.{SaysOfPlans};
-ghost use Rattle.log_resuming.specs.Opened.{front_of};
-ghost use Rattle.log_resuming.specs.Resumed.{IsOpenClaim, IsNoLess, IsNoMore, cap_of, profit_of};
+ghost use Rattle.opened_logs.specs.Opened.{front_of};
+ghost use Rattle.opened_logs.specs.Claims.{IsOpenClaim, IsNoLess, IsNoMore, cap_of, profit_of};
 ghost use Rattle.log_resuming.specs.laws.Judged.{IsMeasured, Judges};
 
-use crate::numbers::{cap_of, is_no_less, is_no_more, is_open, is_spent, is_within, profit_of};
-use crate::opened::{Opened, open_log};
+use crate::numbers::{is_spent, is_within};
 use crate::resuming::Going;
 use branch_tree::is_searchable;
-use log_check::CheckStop;
 use log_growth::{Growth, growth};
-use log_nodes::{Front, Pair, Share};
+use log_nodes::{Pair, Share};
 use log_parts::{LogHead, declares_same};
+use log_stops::CheckStop;
+use opened_logs::{Opened, cap_of, front_of, is_no_less, is_no_more, is_open, open_log, profit_of};
 use plant_check::check_stream;
 use proof_log::Claim;
 use row_relax::Rows;
@@ -34,17 +34,6 @@ const NEWEST: u8 = 4;
 pub struct Judged {
     pub claim: Claim,
     pub boxes: u64,
-}
-
-/// Where the proof of a log with a head begins, and the limits that it keeps.
-pub fn front_of(head: &LogHead) -> Front
-    ensures { result ≡ front_of head.now }
-{
-    Front {
-        limits: head.limits,
-        version: head.version,
-        head: head.bytes,
-    }
 }
 
 // The claims of a log and of one that goes on from it.

@@ -6,12 +6,8 @@
 
 mod judging;
 mod numbers;
-mod opened;
 mod resumed;
 mod resuming;
 
-pub use judging::front_of;
-pub use numbers::{cap_of, is_no_more, is_open, profit_of};
-pub use opened::{Opened, open_log};
 pub use resumed::Resumed;
 pub use resuming::{Going, resume};

@@ -9,13 +9,13 @@ ghost use Rattle.valid_log.specs.declared.verdict.LogVerdict.TheVariants.{Yes};
 ghost use Rattle.valid_log.specs.PlantLogs.{IsAnyChecked};
 ghost use Rattle.log_resuming.specs.Resumed.{IsResumingIn, LeavesResumed, ResumedSays};
 
-use crate::judging::{Judged, front_of, judge};
-use crate::numbers::profit_of;
-use crate::opened::{Opened, open_log};
+use crate::judging::{Judged, judge};
 use crate::resumed::Resumed;
 use end_advice::EndAdvisers;
 use log_nodes::{Pair, Share};
-use log_parts::{JoinStop, head_text};
+use log_parts::head_text;
+use log_stops::JoinStop;
+use opened_logs::{Opened, front_of, open_log, profit_of};
 use plant_check::check_stream;
 use proof_log::Claim;
 use resumed_log::{Task, write_resumed};

@@ -23,9 +23,9 @@ use Rattle.log_parts.specs.Heads.{HasNewest, IsNewest, lines_on}
 use Rattle.log_parts.specs.OtherHeads.{IsOtherHead}
 use Rattle.log_parts.specs.laws.Checked.{nothing}
 use Rattle.log_parts.proofs.Versions.{newest_head}
-use Rattle.log_resuming.specs.declared.opened.Opened.{Opened}
-use Rattle.log_resuming.specs.Opened.{IsOpened, front_of}
-use Rattle.log_resuming.specs.Resumed.{IsOpenClaim}
+use Rattle.opened_logs.specs.declared.opened.Opened.{Opened}
+use Rattle.opened_logs.specs.Opened.{IsOpened, front_of}
+use Rattle.opened_logs.specs.Claims.{IsOpenClaim}
 use Rattle.merge_checks.specs.declared.checked.Checked.TheVariants.{Bad}
 use Rattle.merge_checks.specs.declared.checked.LogCheck.{LogCheck}
 use Rattle.merge_checks.specs.declared.checked.LogCheck.TheVariants.{Valid, Bad as BadLog}

@@ -7,8 +7,8 @@ use Rattle.valid_log.specs.declared.verdict.LogVerdict.TheVariants as verdict
 use Rattle.valid_log.specs.PlantLogs.{IsAnyChecked}
 use Rattle.log_parts.specs.declared.heads.Declared.{Declared}
 use Rattle.log_parts.specs.OtherHeads.{IsOtherHead}
-use Rattle.log_resuming.specs.declared.opened.Opened.{Opened}
-use Rattle.log_resuming.specs.Opened.{IsOpened}
+use Rattle.opened_logs.specs.declared.opened.Opened.{Opened}
+use Rattle.opened_logs.specs.Opened.{IsOpened}
 
 -- the bytes are a valid log of the plant, with whatever claim, and its head declares this
 abbrev pub IsValidDeclaring : Plant → List ℕ → Declared → Type 0

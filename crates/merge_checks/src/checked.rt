@@ -1,7 +1,7 @@
 //! What the check of the logs that are merged comes to.
 use log_lines::Defect;
 use log_nodes::Front;
-use log_resuming::Opened;
+use opened_logs::Opened;
 use proof_log::Claim;
 
 /// Logs that are all valid and have the same head.

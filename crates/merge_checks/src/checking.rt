@@ -8,9 +8,9 @@ ghost use Rattle.store_frames.specs.Frames.{OnlyReads};
 ghost use Rattle.merge_checks.specs.laws.Checked.{AreChecked, AreCheckedTo, AreKnown, AreKnownTo, IsFirstLog, IsKnownCheck, IsLogCheck, IsPushed};
 
 use crate::checked::{Checked, LogCheck, Logs};
-use log_check::CheckStop;
 use log_parts::{LogHead, other_head};
-use log_resuming::{Opened, front_of, is_open, open_log};
+use log_stops::CheckStop;
+use opened_logs::{Opened, front_of, is_open, open_log};
 use plant_check::check_stream;
 use proof_log::{Claim, log_name};
 use std::alloc::{AllocError, Global};

@@ -1,11 +1,11 @@
 //! The claim of the merged log.
 ghost use Rattle.std.specs.Prelude.{◌≡◌, IsTrue, IfSome};
 ghost use Rattle.log_parts.specs.Joining.{plan_of};
-ghost use Rattle.log_resuming.specs.Resumed.{IsNoMore, IsOpenClaim, cap_of};
+ghost use Rattle.opened_logs.specs.Claims.{IsNoMore, IsOpenClaim, cap_of};
 ghost use Rattle.merge_ends.specs.MergedClaims.{IsClaimWith};
 
 use log_parts::{claim_with, plan_of};
-use log_resuming::{cap_of, is_no_more, is_open};
+use opened_logs::{cap_of, is_no_more, is_open};
 use proof_log::Claim;
 use proof_tree::Capped;
 

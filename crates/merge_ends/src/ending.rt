@@ -8,7 +8,8 @@ ghost use Rattle.valid_log.specs.SumTexts.{larger_claim};
 ghost use Rattle.log_parts.specs.laws.Copying.{HasItems, IsFinished, name_of};
 ghost use Rattle.store_frames.specs.Frames.{WritesOne};
 
-use log_parts::{JoinStop, finish_log, larger_claim};
+use log_parts::{finish_log, larger_claim};
+use log_stops::JoinStop;
 use proof_log::{Claim, LogWriter};
 use row_set::program_of;
 use std::alloc::Global;

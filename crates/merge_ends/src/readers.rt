@@ -6,8 +6,8 @@ ghost use Rattle.merged_nodes.specs.laws.Looked.{AreReading, MayReadAll};
 ghost use Rattle.merge_ends.specs.laws.Begun.{AreBegun, HaveEnded};
 
 use log_nodes::{Front, read_end};
-use log_resuming::Opened;
 use merged_nodes::Source;
+use opened_logs::Opened;
 use proof_log::{LogReader, log_name};
 use std::alloc::{AllocError, Global};
 use stn_edge::{Shelf, Stop};

@@ -9,7 +9,7 @@ use Rattle.proof_tree.specs.Items.{tree_items}
 use Rattle.row_relax.specs.RowProofs.{RowItem, RowTree}
 use Rattle.log_nodes.specs.declared.node.Ending.{Ending}
 use Rattle.log_nodes.specs.Reading.{IsReading, ReadsOn}
-use Rattle.log_parts.proofs.Copies.{read_stays, same_file}
+use Rattle.log_nodes.proofs.Stays.{read_stays, same_file}
 use Rattle.merged_nodes.specs.declared.sources.Source.{Source}
 use Rattle.merged_nodes.specs.laws.Looked.{AreApart, AreReading, Away, Down, Ends, HasPassed, HasStood, HavePassed, HaveStood, MayReadAll, Other, Stand}
 use Rattle.merge_walk.specs.laws.Opened.{AreSame}

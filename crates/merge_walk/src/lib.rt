@@ -5,6 +5,5 @@
 
 mod merging;
 mod nodes;
-mod way;
 
 pub use merging::merge_node;

@@ -1,24 +1,24 @@
 //! The merged proof, written node by node.
-ghost use Rattle.std.specs.Prelude.{◌≡◌, ◌+◌, ◌<◌, length, map, take, Some, Err, IsTrue, IfOk, IfSome};
+ghost use Rattle.std.specs.Prelude.{◌≡◌, ◌<◌, length, map, Err, IsTrue, IfOk, IfSome};
 ghost use Rattle.stn_edge.specs.Count.{Rose};
-ghost use Rattle.proof_tree.specs.Cap.{floor_cap, greater};
-ghost use Rattle.proof_tree.specs.Views.{MovesTo, present};
-ghost use Rattle.row_relax.specs.Steps.{row_steps};
 ghost use Rattle.row_relax.specs.View.{Fits, view_of};
 ghost use Rattle.log_nodes.specs.laws.Seen.{seen};
+ghost use Rattle.open_splits.specs.laws.Behind.{HasGoneOn};
 ghost use Rattle.log_parts.specs.laws.Copying.{name_of};
 ghost use Rattle.store_frames.specs.Frames.{ReadsAndWritesOne};
 ghost use Rattle.merged_nodes.specs.laws.Looked.{AreApart, AreReading, MayReadAll};
+ghost use Rattle.merge_walk.specs.laws.Opened.{merging_walk};
 ghost use Rattle.merge_walk.specs.laws.Walked.{HasMerged};
 
 use crate::nodes::merge_here;
-use crate::way::{OpenSplit, Way, Written};
-use log_parts::JoinStop;
+use log_stops::JoinStop;
 use merged_nodes::{Merging, Source};
+use open_splits::{Met, OpenSplit, Way, turn};
 use proof_log::LogWriter;
 use proof_tree::{Capped, Relaxation, Stack, floor_cap, greater_cap};
 use row_kit::Area;
 use row_relax::Rows;
+use std::alloc::AllocError;
 use stn_edge::Shelf;
 
 /// Reads the proofs of all logs that came down below so many splits over an area, and writes the proof that is merged of them; its cap.
@@ -50,77 +50,55 @@ pub fn merge_node<F: Shelf>(
     ensures write_fault { result ≡ Err JoinStop.WriteFault
         → Rose (F.write_faults files.old) (F.write_faults files.new) }
 {
+    let mark = merging.rows.mark(area);
     let mut splits = Stack::new(merging.alloc);
     let mut way = Way::Down(depth);
     'steps: loop {
         match way {
-            Way::Down(below) => {
-                match merge_here(merging, files, sources, writer, area, below)? {
-                    None => return Ok(None),
-                    Some(Written::End(cap)) => way = Way::Up(cap),
-                    Some(Written::Split(split)) => {
-                        splits.push(split)?;
-                        way = Way::Down(below + 1);
-                    }
+            Way::Down(below) => match merge_here(merging, files, sources, writer, area, below)? {
+                None => return Ok(None),
+                Some(Met::End(cap)) => way = Way::Up(cap),
+                Some(Met::Split(split)) => {
+                    splits.push(split)?;
+                    way = Way::Down(split.below);
                 }
-            }
+            },
             Way::Up(cap) => {
                 let Some(split) = splits.take_top() else {
+                    merging.rows.back(area, mark);
                     return Ok(Some(cap));
                 };
-                match split.left {
-                    Some(left) => way = Way::Up(close(merging.rows, area, &split, left, cap)),
-                    None => {
-                        if !turn(merging.rows, area, &split) {
-                            return Ok(None);
-                        }
-                        splits.push(turned(split, cap))?;
-                        way = Way::Down(split.depth + 1);
-                    }
+                match go_on(merging.rows, area, &mut splits, split, cap)? {
+                    Some(next) => way = next,
+                    None => return Ok(None),
                 }
             }
         }
     }
 }
 
-// Narrows an area below the left part of a split to its right part; false where it has none.
-fn turn(rows: &Rows, area: &mut Area, split: &OpenSplit) -> bool
+// Goes on behind a part of a split that is written, which has this cap: it closes the split, or turns to its right part; none where it
+// has none.
+fn go_on(
+    rows: &Rows,
+    area: &mut Area,
+    splits: &mut Stack<OpenSplit<Option<i128>, Capped>>,
+    split: OpenSplit<Option<i128>, Capped>,
+    cap: Capped,
+) -> Result<Option<Way<u32, Capped>>, AllocError>
     requires fits { Fits rows.now.program (seen area.old) }
-    requires within { split.now.mark < length (map view_of area.old) }
+    requires within { split.mark < length (map view_of area.old) }
     ensures fits { Fits rows.now.program (seen area.new) }
-    ensures moves { MovesTo ((row_steps rows.now.program).right
-        (present (take (split.now.mark + 1) (map view_of area.old))) split.now.pick)
-        (take (split.now.mark + 1) (map view_of area.old)) (map view_of area.new) result }
+    ensures gone { (best : _) (stem : _) (name : _) → IfOk result (λ next. IfSome next (HasGoneOn
+        rows.now.program (merging_walk rows.now best stem name) split cap splits.old splits.new
+        (map view_of area.old) (map view_of area.new))) }
 {
-    rows.back(area, split.mark);
-    rows.right(area, &split.pick)
-}
-
-// The split, once its left part is written, which has this cap.
-fn turned(split: OpenSplit, left: Capped) -> OpenSplit
-    ensures { result ≡ record {
-      depth = split.depth;
-      before = split.before;
-      mark = split.mark;
-      pick = split.pick;
-      floor = split.floor;
-      left = Some left;
-    } }
-{
-    OpenSplit {
-        left: Some(left),
-        ..split
+    if let Some(left) = split.left {
+        let whole = greater_cap(floor_cap(split.kept), greater_cap(left, cap));
+        return Ok(Some(Way::Up(whole)));
     }
-}
-
-// Makes an area what it was at the node of a split whose parts are written, which have these caps; its own.
-fn close(rows: &Rows, area: &mut Area, split: &OpenSplit, left: Capped, right: Capped) -> Capped
-    requires fits { Fits rows.now.program (seen area.old) }
-    requires within { split.now.before < length (map view_of area.old) }
-    ensures fits { Fits rows.now.program (seen area.new) }
-    ensures views { map view_of area.new ≡ take (split.now.before + 1) (map view_of area.old) }
-    ensures cap { result ≡ greater (floor_cap split.now.floor) (greater left right) }
-{
-    rows.back(area, split.before);
-    greater_cap(floor_cap(split.floor), greater_cap(left, right))
+    if !turn(rows, area, splits, split, cap)? {
+        return Ok(None);
+    }
+    Ok(Some(Way::Down(split.below)))
 }

@@ -13,12 +13,13 @@ ghost use Rattle.merged_nodes.specs.laws.Puts.{PutsItems};
 ghost use Rattle.merged_nodes.specs.laws.Looked.{AreApart, AreReading, HasLooked, MayReadAll};
 ghost use Rattle.merge_walk.specs.laws.Walked.{CanMerge};
 
-use crate::way::{OpenSplit, Written};
 use log_nodes::{MOST_NODES, Node, cut_down, item_of};
-use log_parts::{JoinStop, put_item};
+use log_parts::put_item;
+use log_stops::JoinStop;
 use merged_nodes::{Capping, Looked, Merging, Source, closes, look, pass_below, put_end, put_node};
+use open_splits::{Met, OpenSplit};
 use proof_log::LogWriter;
-use proof_tree::{Item, Relaxation};
+use proof_tree::{Capped, Item, Relaxation};
 use row_kit::Area;
 use stn_edge::Shelf;
 
@@ -31,7 +32,7 @@ pub fn merge_here<F: Shelf>(
     writer: &mut LogWriter,
     area: &mut Area,
     depth: u32,
-) -> Result<Option<Written>, JoinStop>
+) -> Result<Option<Met<Option<i128>, Capped>>, JoinStop>
     requires may_read { MayReadAll (F.may_read files.old) merging.stem.now sources.old.items }
     requires may_write { IsTrue (F.may_write files.old (name_of writer.old)) }
     requires apart { AreApart (name_of writer.old) merging.stem.now sources.old.items }
@@ -72,7 +73,7 @@ fn merge_looked<F: Shelf>(
     writer: &mut LogWriter,
     area: &mut Area,
     depth: u32,
-) -> Result<Option<Written>, JoinStop>
+) -> Result<Option<Met<Option<i128>, Capped>>, JoinStop>
     requires can { CanMerge F.Shelf merging files.old sources.old.items writer.old area.old depth }
     ensures written { (before : Items Source) → HasLooked merging.entry.rows.now
         (seen area.old) (F.files files.old) merging.entry.stem.now depth before
@@ -109,7 +110,7 @@ fn merge_looked<F: Shelf>(
             }
         }
         None => match open_split(merging, files, sources, split, writer, area, depth)? {
-            Some(split) => Ok(Some(Written::Split(split))),
+            Some(split) => Ok(Some(Met::Split(split))),
             None => Ok(None),
         },
     }
@@ -120,9 +121,9 @@ fn write_end<F: Shelf>(
     writer: &mut LogWriter,
     files: &mut F,
     end: Capping,
-) -> Result<Option<Written>, JoinStop>
+) -> Result<Option<Met<Option<i128>, Capped>>, JoinStop>
     requires { IsTrue (F.may_write files.old (name_of writer.old)) }
-    ensures put { IfOk result (λ written. (written ≡ Some (Written.End end.cap))
+    ensures put { IfOk result (λ written. (written ≡ Some (Met.End end.cap))
         × PutsItems writer.old (F.files files.old) writer.new (F.files files.new)
         (node_items end.node)) }
     ensures named { name_of writer.new ≡ name_of writer.old }
@@ -133,7 +134,7 @@ fn write_end<F: Shelf>(
 {
     let cap = end.cap;
     put_end(writer, files, end)?;
-    Ok(Some(Written::End(cap)))
+    Ok(Some(Met::End(cap)))
 }
 
 // The end, where there is one and its cap closes its box.
@@ -161,7 +162,7 @@ fn open_split<F: Shelf>(
     writer: &mut LogWriter,
     area: &mut Area,
     depth: u32,
-) -> Result<Option<OpenSplit>, JoinStop>
+) -> Result<Option<OpenSplit<Option<i128>, Capped>>, JoinStop>
     requires { CanMerge F.Shelf merging files.old sources.now.items writer.old area.old depth }
     ensures opened { IfOk result (λ split. IfSome split (HasOpenedSplit merging.entry.rows.now
         merging.entry.best node (map view_of area.old) (map view_of area.new)
@@ -176,7 +177,6 @@ fn open_split<F: Shelf>(
     ensures no_fault { result ≢ Err JoinStop.ReadFault }
 {
     let Node { cuts, found, end } = node;
-    let before = merging.rows.mark(area);
     if !cut_down(merging.rows, area, cuts.as_slice()) {
         return Ok(None);
     }
@@ -187,16 +187,5 @@ fn open_split<F: Shelf>(
         return Ok(None);
     };
     let floor = merging.rows.trim(area, pick, cert);
-    let mark = merging.rows.mark(area);
-    if !merging.rows.left(area, pick) {
-        return Ok(None);
-    }
-    Ok(Some(OpenSplit {
-        depth,
-        before,
-        mark,
-        pick: *pick,
-        floor,
-        left: None,
-    }))
+    Ok(open_splits::open_split(merging.rows, area, depth, pick, floor))
 }

@@ -9,7 +9,8 @@ ghost use Rattle.merged_nodes.specs.laws.Puts.{PutsItems};
 
 use crate::looking::Capping;
 use log_nodes::{Node, item_of};
-use log_parts::{JoinStop, put_item};
+use log_parts::put_item;
+use log_stops::JoinStop;
 use proof_log::LogWriter;
 use proof_tree::{Capped, Item};
 use range_prop::RowCut;

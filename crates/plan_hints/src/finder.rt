@@ -143,28 +143,6 @@ impl Finder {
         self.plans.take_point(&self.tables, program);
     }
 
-    /// Makes its plan the least values of its area, and counts this and a look at so many rows as work.
-    pub fn read_least(&mut self, rows: usize) {
-        put_least(&self.field, self.plans.point.as_mut_slice());
-        self.plans
-            .plan
-            .read(&self.tables, self.plans.point.as_slice());
-        let looks = self.plans.point.len().saturating_add(rows);
-        self.work = self.work.wrapping_add(looks as u64);
-    }
-
-    /// What its plan leaves of a row.
-    pub fn room(&self, row: u32) -> i64 {
-        self.plans.plan.room(&self.tables, row)
-    }
-
-    /// How many rows a value of a slot would mend in its plan, less those that it would break.
-    pub fn gain(&mut self, slot: u32, value: u8) -> i64 {
-        let parts = self.tables.parts_of(slot);
-        self.work = self.work.wrapping_add(parts.len() as u64);
-        self.plans.plan.gain(&self.tables, slot, value)
-    }
-
     /// Takes the only point of its area.
     pub fn take_only(&mut self, program: &Program) {
         put_least(&self.field, self.plans.point.as_mut_slice());

@@ -119,7 +119,7 @@ impl Looker {
     fn new(alloc: Global, program: &Program, box_slots: usize) -> Result<Looker, AllocError> {
         Ok(Looker {
             finder: Finder::new(alloc, program)?,
-            mender: Mender::new(alloc, program)?,
+            mender: Mender::new(),
             walk: Walk::new(program),
             seen: vec![in alloc; NONE; program.root.len()]?,
             accounts: Accounts::new(program, box_slots),

@@ -5,8 +5,10 @@
 
 mod accounts;
 mod bounds;
+mod differences;
 mod diving;
 mod finder;
+mod ground;
 mod hinter;
 mod mending;
 mod neighbourhoods;

@@ -1,7 +1,8 @@
 //! First plans, row by row: what is broken where nothing more is started is mended by starts, with cuts after each.
 use crate::finder::Finder;
+use crate::ground::Ground;
 use plan_repair::Extents;
-use row_activity::{counted, is_single, numbered, put_last, range_within};
+use row_activity::{copy, counted, is_single, numbered, put_last, range_within};
 use row_kit::{Domain, Entry, Program};
 use std::alloc::{AllocError, Global};
 
@@ -24,14 +25,28 @@ struct Choice {
     mark: u32,
 }
 
-/// Looks for a first plan, in memory that it is made with. It keeps the rows in the order of their last slots, and in how many ways
-/// it has looked.
+// What a look at a box comes to: its least values are a plan, a choice was made, or there is nothing to choose.
+#[derive(Clone, Copy)]
+enum Looked {
+    Plan,
+    Chosen,
+    Dead,
+}
+
+/// Looks for first plans. It keeps in how many ways it has looked, and what it looks on as long as there is no plan.
 #[derive(Drop)]
 pub struct Mender {
+    site: Option<Site>,
+    ways: u32,
+}
+
+// What a plan is made on: the ground, its rows in the order of their last slots, and the choices that were made.
+#[derive(Drop)]
+struct Site {
+    ground: Ground,
     rows: Vec<(i64, u32)>,
     choices: Vec<Choice>,
     places: i64,
-    ways: u32,
 }
 
 // The most boxes of a search.
@@ -44,94 +59,127 @@ const MOST_FAILS: u32 = 300;
 const ROW: i64 = 32;
 
 impl Mender {
-    /// What looks for plans of a program. It has not looked yet.
-    pub fn new(alloc: Global, program: &Program) -> Result<Mender, AllocError> {
-        let count = program.rows.len();
+    /// What looks for plans. It has not looked yet.
+    pub fn new() -> Mender {
+        Mender {
+            site: None,
+            ways: 0,
+        }
+    }
+
+    /// Searches the area of a finder for a plan in the next way, up to so much work in all. It takes memory the first time; where there
+    /// is none, nothing is searched.
+    pub fn search(&mut self, finder: &mut Finder, program: &Program, limit: u64) {
+        if self.site.is_none() {
+            self.site = match Site::new(finder.alloc, program) {
+                Ok(site) => site,
+                Err(_) => None,
+            };
+        }
+        let way = way_of(self.ways);
+        self.ways = self.ways.saturating_add(1);
+        if let Some(site) = &mut self.site {
+            if site.search(finder, way, limit) {
+                copy(
+                    finder.plans.point.as_mut_slice(),
+                    site.ground.point.as_slice(),
+                );
+                finder.take_point(program);
+            }
+        }
+        if finder.plans.kept.worth.is_some() {
+            self.site = None;
+        }
+    }
+}
+
+impl Site {
+    // What plans of a program are made on; None where there is no ground.
+    fn new(alloc: Global, program: &Program) -> Result<Option<Site>, AllocError> {
+        let Some(ground) = Ground::new(alloc, program)? else {
+            return Ok(None);
+        };
+        let count = ground.program.rows.len();
         let mut rows = Vec::with_capacity(alloc, count)?;
         for number in 0..count {
-            let last = last_place(program, program.rows.get(number).entries.as_slice());
+            let row = ground.program.rows.get(number);
+            let last = last_place(&ground.program, row.entries.as_slice());
             rows.push((last, numbered(number)))?;
         }
         rows.sort_unstable();
-        Ok(Mender {
+        Ok(Some(Site {
+            ground,
             rows,
             choices: Vec::with_capacity(alloc, program.root.len())?,
             places: i64::from(Extents::new(program.tags.as_slice()).places),
-            ways: 0,
-        })
+        }))
     }
 
-    /// Searches the area of a finder for a plan in the next way, up to so much work in all.
-    pub fn search(&mut self, finder: &mut Finder, program: &Program, limit: u64) {
-        let way = way_of(self.ways);
-        self.ways = self.ways.saturating_add(1);
+    // Searches the area of a finder in a way; whether its point is then a plan.
+    fn search(&mut self, finder: &mut Finder, way: Way, limit: u64) -> bool {
         self.choices.clear();
-        let mark = finder.field.mark();
         let mut fails = 0u32;
+        let mut goes_on = self.ground.enter(&finder.field.area);
         for _ in 0..MOST_BOXES {
-            if fails > MOST_FAILS || finder.work >= limit || finder.plans.kept.worth.is_some() {
-                break;
+            finder.work = finder.work.wrapping_add(self.ground.take_work());
+            if !goes_on || finder.work >= limit {
+                return false;
             }
-            if !self.look(finder, program, way) {
-                fails = fails.saturating_add(1);
-                if !self.turn(finder, way) {
-                    break;
+            match self.look(finder, way) {
+                Looked::Plan => return true,
+                Looked::Chosen => {}
+                Looked::Dead => {
+                    fails = fails.saturating_add(1);
+                    goes_on = fails <= MOST_FAILS && self.turn(way);
                 }
             }
         }
-        finder.field.back(&finder.tables, mark);
+        false
     }
 
     // Goes to the other part of the last choice, which has failed; false where none is left.
-    fn turn(&mut self, finder: &mut Finder, way: Way) -> bool {
+    fn turn(&mut self, way: Way) -> bool {
         match self.choices.pop() {
             None => false,
             Some(choice) => {
-                finder.field.back(&finder.tables, choice.mark);
-                let most = if way.whole && finder.field.domain(choice.slot).zero {
-                    0
-                } else {
-                    choice.max
-                };
-                finder.field.keep_most(&finder.tables, choice.slot, most);
+                self.ground.back(choice.mark);
+                let keeps_none = way.whole && self.ground.field.domain(choice.slot).zero;
+                let most = if keeps_none { 0 } else { choice.max };
+                self.ground.keep_most(choice.slot, most);
                 true
             }
         }
     }
 
-    // Looks at a box: takes its plan where nothing more has to be started, and else chooses what mends a row; false where there is no
-    // point, or nothing mends it.
-    fn look(&mut self, finder: &mut Finder, program: &Program, way: Way) -> bool {
-        if !finder.cut(program) {
-            return false;
+    // Looks at a box, and chooses what mends the first row that is broken.
+    fn look(&mut self, finder: &Finder, way: Way) -> Looked {
+        if !self.ground.cut() {
+            return Looked::Dead;
         }
-        finder.read_least(self.rows.len());
-        match self.first_broken(finder) {
-            None => {
-                finder.take_only(program);
-                finder.plans.kept.worth.is_some()
-            }
-            Some(row) => match self.helper(finder, program, row, way) {
-                None => false,
+        self.ground.read_least();
+        match self.first_broken() {
+            None => Looked::Plan,
+            Some(row) => match self.helper(finder, row, way) {
+                None => Looked::Dead,
                 Some((slot, max)) => {
-                    self.choose(finder, slot, max);
-                    true
+                    self.choose(slot, max);
+                    Looked::Chosen
                 }
             },
         }
     }
 
     // Chooses the values of a slot above `max`.
-    fn choose(&mut self, finder: &mut Finder, slot: u32, max: u8) {
-        let mark = finder.field.mark();
+    fn choose(&mut self, slot: u32, max: u8) {
+        let mark = self.ground.field.mark();
         put_last(&mut self.choices, Choice { slot, max, mark });
-        finder.field.keep_above(&finder.tables, slot, max);
+        self.ground.keep_above(slot, max);
     }
 
     // The first row that is broken.
-    fn first_broken(&self, finder: &Finder) -> Option<u32> {
+    fn first_broken(&self) -> Option<u32> {
         for (_, row) in self.rows.as_slice() {
-            if finder.room(*row) < 0 {
+            if self.ground.room(*row) < 0 {
                 return Some(*row);
             }
         }
@@ -139,37 +187,33 @@ impl Mender {
     }
 
     // The slot that helps a broken row best, with the value above which it does.
-    fn helper(
-        &self,
-        finder: &mut Finder,
-        program: &Program,
-        row: u32,
-        way: Way,
-    ) -> Option<(u32, u8)> {
-        if row as usize >= program.rows.len() {
-            return None;
-        }
+    fn helper(&mut self, finder: &Finder, row: u32, way: Way) -> Option<(u32, u8)> {
+        let ground = &self.ground;
+        let room = ground.room(row);
         let mut found = None;
         let mut most = i64::MIN;
-        for entry in program.rows.get(row as usize).entries.as_slice() {
-            if let Some(value) = helping(finder, entry, finder.room(row)) {
-                let gain = finder.gain(entry.slot, value).wrapping_mul(ROW);
-                let rank = gain.wrapping_add(self.rank(finder, program, entry.slot, way));
+        let mut looks = 0usize;
+        for entry in ground.entries(row) {
+            if let Some(value) = helping(ground, entry, room) {
+                let gain = ground.gain(entry.slot, value).wrapping_mul(ROW);
+                looks = looks.saturating_add(ground.tables.parts_of(entry.slot).len());
+                let rank = gain.wrapping_add(self.rank(finder, entry.slot, way));
                 if rank > most {
                     most = rank;
                     found = Some((entry.slot, value.saturating_sub(1)));
                 }
             }
         }
+        self.ground.count(looks);
         found
     }
 
     // How a slot ranks, beside what it mends and breaks.
-    fn rank(&self, finder: &Finder, program: &Program, slot: u32, way: Way) -> i64 {
+    fn rank(&self, finder: &Finder, slot: u32, way: Way) -> i64 {
         let started = finder.bounds.amount(slot).started >> 26;
         let bound = started.wrapping_mul(way.bound);
         let chance = drawn(slot, way.seed).wrapping_mul(way.chance);
-        let late = place_of(program, slot).wrapping_mul(way.late);
+        let late = place_of(&self.ground.program, slot).wrapping_mul(way.late);
         let rest = bound.wrapping_add(chance);
         rest.wrapping_mul(self.places).wrapping_add(late)
     }
@@ -220,12 +264,12 @@ fn last_place(program: &Program, entries: &[Entry]) -> i64 {
 }
 
 // The least value at which an entry's slot mends a row with so little room, or else the greatest; None where it does not help.
-fn helping(finder: &Finder, entry: &Entry, room: i64) -> Option<u8> {
-    let domain = finder.field.domain(entry.slot);
+fn helping(ground: &Ground, entry: &Entry, room: i64) -> Option<u8> {
+    let domain = ground.field.domain(entry.slot);
     if is_single(domain) || domain.lo > domain.hi {
         return None;
     }
-    let own = counted(entry.fixed, entry.per, finder.plans.plan.value(entry.slot));
+    let own = counted(entry.fixed, entry.per, ground.plan.value(entry.slot));
     if counted(entry.fixed, entry.per, domain.hi) >= own {
         return None;
     }

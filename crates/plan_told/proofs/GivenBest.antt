@@ -12,7 +12,7 @@ use Rattle.proof_tree.specs.declared.capped.Capped.{Capped}
 use Rattle.proof_tree.specs.declared.capped.Capped.TheVariants.{AtMost, NoPoint, Bad}
 use Rattle.branch_tree.specs.Justified.{IsGroup}
 use Rattle.branch_tree.specs.Searched.{IsSettled}
-use Rattle.branch_tree.specs.laws.Ends.{is_over}
+use Rattle.branch_tree.specs.Compared.{is_over}
 use Rattle.branch_tree.proofs.Best.{better-first, better-keeps, better-second}
 use Rattle.sum_slots.specs.declared.sum.Sum.{Sum}
 use Rattle.sum_slots.specs.Larger.{completed, given_of}

@@ -23,7 +23,7 @@ use Rattle.row_relax.specs.View.{view_of}
 use Rattle.branch_tree.specs.declared.ended.Ended.{Ended}
 use Rattle.branch_tree.specs.Justified.{IsGroup}
 use Rattle.branch_tree.specs.Searched.{HasOpenBox}
-use Rattle.branch_tree.specs.laws.Ends.{is_over}
+use Rattle.branch_tree.specs.Compared.{is_over}
 use Rattle.plan_images.specs.Caps.{Caps}
 use Rattle.plan_images.proofs.Imaging.{HaveSamePoints, itself-relaxes, same-relaxes}
 use Rattle.plan_images.proofs.Telling.{bounds-cap}

@@ -6,7 +6,7 @@ use Rattle.row_kit.specs.declared.program.Program.{Program}
 use Rattle.row_kit.specs.Point.{worth_of}
 use Rattle.row_relax.specs.Settle.{is_lawful, only_point}
 use Rattle.branch_tree.specs.declared.ended.Ended.{Ended}
-use Rattle.branch_tree.specs.laws.Ends.{better_of, is_over}
+use Rattle.branch_tree.specs.Compared.{better_of, is_over}
 
 -- a found point cut back to so many slots
 abbrev pub cut_found : ℕ → Found → Found

@@ -1,12 +1,10 @@
 //! What a search over a program with sums ended with, as of the given program.
 ghost use Rattle.std.specs.Prelude.{◌≡◌, IfOk, take};
 ghost use Rattle.std.specs.Option.{option_map};
-ghost use Rattle.row_relax.specs.Settle.{only_point, only_value};
-ghost use Rattle.branch_tree.specs.laws.Ends.{better_of, is_over};
-ghost use Rattle.plan_told.specs.Given.{cut_found, given_end, least_found, worth_found};
+ghost use Rattle.row_relax.specs.Settle.{only_point};
+ghost use Rattle.plan_told.specs.Given.{cut_found, given_end, least_found};
 
-use branch_tree::Ended;
-use proof_tree::Capped;
+use branch_tree::{Ended, better, exceeds, least_value, worth_of};
 use row_kit::{Domain, Found, List, Program, is_lawful, worth};
 use std::alloc::{AllocError, Global};
 
@@ -30,7 +28,7 @@ pub fn given_ended(
     } = ended;
     let found = cut_best(alloc, slots, best)?;
     let best = better(found, least);
-    let left_open = exceeds(cap, &best);
+    let left_open = exceeds(cap, worth_of(&best));
     Ok(Ended {
         best,
         cap,
@@ -87,40 +85,7 @@ fn least_point(alloc: Global, domains: &[Domain]) -> Result<List<u8>, AllocError
 {
     let mut point = List::new(alloc);
     for domain in domains {
-        point.push(least_value(domain))?;
+        point.push(least_value(*domain))?;
     }
     Ok(point)
-}
-
-// The least value of a domain that has one: 0 where it holds 0.
-fn least_value(domain: &Domain) -> u8
-    ensures { result ≡ only_value domain.now }
-{
-    if domain.zero { 0 } else { domain.lo }
-}
-
-// The one of two found points that is worth more, the first where both are worth the same.
-fn better(one: Option<Found>, other: Option<Found>) -> Option<Found>
-    ensures { result ≡ better_of one other }
-{
-    match (one, other) {
-        (None, other) => other,
-        (one, None) => one,
-        (Some(one), Some(other)) => if one.value < other.value {
-            Some(other)
-        } else {
-            Some(one)
-        },
-    }
-}
-
-// Whether a cap leaves something above the worth of the best point.
-fn exceeds(cap: Capped, best: &Option<Found>) -> bool
-    ensures { result ≡ is_over cap (worth_found best.now) }
-{
-    match (cap, best) {
-        (Capped::NoPoint, _) => false,
-        (Capped::AtMost(most), Some(found)) => found.value < most,
-        _ => true,
-    }
 }

@@ -2,8 +2,8 @@
 ghost use Rattle.std.specs.Prelude.{◌≡◌, ◌≢◌, ◌≤◌, Err, IfOk, take};
 ghost use Rattle.valid_log.specs.AnyVersion.{given_claim, given_verdict, in_file};
 
-use log_check::CheckStop;
 use log_lines::Defect;
+use log_stops::CheckStop;
 use proof_log::Claim;
 use row_kit::List;
 use std::alloc::{AllocError, Global};

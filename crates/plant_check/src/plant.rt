@@ -10,7 +10,7 @@ ghost use Rattle.valid_log.specs.PlantLogs.{IsAnyChecked, IsAnyKeptChecked, IsAn
 ghost use Rattle.store_frames.specs.Frames.{OnlyReads};
 
 use crate::check::{CheckedPart, check_any};
-use log_check::CheckStop;
+use log_stops::CheckStop;
 use row_kit::{List, Program};
 use row_set::{plant_root, program_of};
 use std::alloc::Global;

@@ -8,8 +8,8 @@ ghost use Rattle.valid_log.specs.Heads.{AreSetups, no_setups, setup_size, setup_
 ghost use Rattle.plant_check.specs.Heads.{AreSetupsHeld};
 ghost use Rattle.store_frames.specs.Frames.{OnlyReads};
 
-use log_check::CheckStop;
 use log_lines::Limits;
+use log_stops::CheckStop;
 use row_kit::List;
 use setup_lines::{SetupFront, SetupSize, Setups};
 use setup_slots::setup_size;

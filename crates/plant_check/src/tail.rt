@@ -9,8 +9,8 @@ ghost use Rattle.plant_check.specs.Heads.{IsFrontHeld};
 ghost use Rattle.store_frames.specs.Frames.{OnlyReads};
 
 use derivation_lines::{Tail, TailFront, read_derivations};
-use log_check::CheckStop;
 use log_lines::Limits;
+use log_stops::CheckStop;
 use row_kit::List;
 use std::alloc::Global;
 use stn_edge::Shelf;

@@ -23,7 +23,7 @@ use answer_texts::{claim_line, numbered_defect};
 use command_replies::{Reply, Stopped, plant_in};
 use command_words::LogCount;
 use log_merging::{Merged, merge};
-use log_parts::JoinStop;
+use log_stops::JoinStop;
 use std::alloc::{AllocError, Global};
 use stn_edge::Shelf;
 use stn_model::Plant;

@@ -1,4 +1,3 @@
 pub mod OpenSplits
 pub mod Puts
 pub mod Readers
-pub mod Remaining

@@ -11,7 +11,7 @@ use Rattle.branch_tree.specs.laws.Going.{CanGoOn}
 use Rattle.log_nodes.specs.Reading.{IsReading}
 use Rattle.log_nodes.proofs.Frames.{others-then}
 use Rattle.store_frames.specs.Frames.{WritesOne}
-use Rattle.log_parts.proofs.Copies.{read_stays, same_file}
+use Rattle.log_nodes.proofs.Stays.{read_stays, same_file}
 use Rattle.resumed_log.specs.laws.Walks.{CanWriteBeside, GoesOnWalking}
 
 -- a reader reads a file on where another one changes

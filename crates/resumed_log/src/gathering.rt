@@ -10,7 +10,7 @@ ghost use Rattle.resumed_log.specs.laws.Walks.{CanWalk, GoesOnWalking, HasPassed
 
 use crate::claiming::point_of;
 use crate::leaves::{cap_of, may_search};
-use crate::walk::{OpenSplit, Walk, open_split, turn};
+use crate::walk::{OpenSplit, Walk, go_on, open_split};
 use branch_tree::GoingOn;
 use end_advice::OpenEnd;
 use log_nodes::{Ending, Front, Node, Pair, WalkStop, enter_node, is_open, reader_at};
@@ -184,18 +184,12 @@ fn gather_node<F: Shelf>(
     let mut depth = walk.depth;
     'nodes: loop {
         let here = Walk { depth, ..walk };
-        match gather_here(here, files, reader, gathered, area)? {
-            Some(split) => {
-                splits.push(split)?;
-                depth = split.below;
-            }
+        let split = gather_here(here, files, reader, gathered, area)?;
+        match go_on(walk, area, &mut splits, split)? {
+            Some(below) => depth = below,
             None => {
-                let Some(split) = splits.take_top() else {
-                    walk.pair.rows.back(area, mark);
-                    return Ok(());
-                };
-                turn(walk.pair.rows, area, &split)?;
-                depth = split.below;
+                walk.pair.rows.back(area, mark);
+                return Ok(());
             }
         }
     }

@@ -14,7 +14,7 @@ use crate::task::Task;
 use branch_tree::{GoingOn, is_searchable};
 use end_advice::{EndAdvisers, OpenEnd};
 use log_nodes::WalkStop;
-use log_parts::JoinStop;
+use log_stops::JoinStop;
 use proof_log::Claim;
 use row_kit::Found;
 use row_relax::choices_of;

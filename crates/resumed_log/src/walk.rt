@@ -1,14 +1,15 @@
 //! What a walk down a log stands on.
-ghost use Rattle.std.specs.Prelude.{◌≡◌, ◌≢◌, ◌<◌, ◌+◌, length, map, take, Err, IfOk, OnOk};
-ghost use Rattle.proof_tree.specs.Views.{KeepsViews};
+ghost use Rattle.std.specs.Prelude.{◌≢◌, ◌++◌, [], Err, IfOk, OnOk, Some, map, option_to_list};
 ghost use Rattle.row_relax.specs.View.{Fits, view_of};
 ghost use Rattle.log_nodes.specs.laws.Seen.{seen};
-ghost use Rattle.resumed_log.specs.laws.Walks.{HasOpened};
+ghost use Rattle.open_splits.specs.laws.Opened.{StandsIn};
+ghost use Rattle.resumed_log.specs.laws.Walks.{HasNext, HasPassed};
 
 use log_nodes::{Pair, WalkStop};
-use proof_tree::Relaxation;
+use open_splits::begin_right;
+use proof_tree::Stack;
 use row_kit::Area;
-use row_relax::{RowPick, Rows};
+use row_relax::RowPick;
 use std::alloc::Global;
 
 /// Where a walk takes memory, the logs that it is about, and below how many splits it stands.
@@ -19,49 +20,49 @@ pub struct Walk<'a> {
     pub depth: u32,
 }
 
-/// A split whose right part is left to read.
-#[derive(Clone, Copy)]
-pub struct OpenSplit {
-    /// How many splits its parts stand below.
-    pub below: u32,
-    /// The mark of the area that it divides: what it has not forgotten.
-    pub mark: u32,
-    pub pick: RowPick,
-}
+/// A split whose right part is left to read: nothing is kept of it.
+pub type OpenSplit = open_splits::OpenSplit<(), ()>;
 
 /// Narrows an area to the left part of a split that divides it.
 pub fn open_split(walk: Walk, area: &mut Area, pick: &RowPick) -> Result<OpenSplit, WalkStop>
     requires { Fits walk.pair.rows.now.program (seen area.old) }
-    ensures opened { IfOk result (HasOpened walk.entry.pair walk.entry.depth (map view_of area.old)
-        (map view_of area.new)) }
+    ensures opened { IfOk result (λ split. HasPassed walk.entry.pair walk.entry.depth
+        (map view_of area.old) (map view_of area.new) (Some split)) }
     ensures no_fault { (result ≢ Err WalkStop.ReadFault) × (result ≢ Err WalkStop.WriteFault) }
 {
     if walk.depth >= walk.pair.most {
         return Err(WalkStop::Other);
     }
-    let mark = walk.pair.rows.mark(area);
-    if !walk.pair.rows.left(area, pick) {
-        return Err(WalkStop::Other);
+    match open_splits::open_split(walk.pair.rows, area, walk.depth, pick, ()) {
+        Some(split) => Ok(split),
+        None => Err(WalkStop::Other),
     }
-    Ok(OpenSplit {
-        below: walk.depth + 1,
-        mark,
-        pick: *pick,
-    })
 }
 
-/// Narrows an area below the left part of a split to its right part.
-pub fn turn(rows: &Rows, area: &mut Area, split: &OpenSplit) -> Result<(), WalkStop>
-    requires fits { Fits rows.now.program (seen area.old) }
-    requires within { split.now.mark < length (map view_of area.old) }
-    ensures fits { Fits rows.now.program (seen area.new) }
-    ensures keeps { OnOk result (KeepsViews (take (split.now.mark + 1) (map view_of area.old))
-        (map view_of area.new)) }
+/// Goes on behind a node: below the split that was opened there, else in the right part of the innermost open split; none where no split is
+/// open. The answer is how many splits the next node stands below.
+pub fn go_on(
+    walk: Walk,
+    area: &mut Area,
+    splits: &mut Stack<OpenSplit>,
+    split: Option<OpenSplit>,
+) -> Result<Option<u32>, WalkStop>
+    requires fits { Fits walk.pair.rows.now.program (seen area.old) }
+    requires stands { StandsIn [] (option_to_list split ++ splits.old) (map view_of area.old) }
+    ensures fits { OnOk result (Fits walk.entry.pair.rows.now.program (seen area.new)) }
+    ensures next { IfOk result (HasNext split splits.old splits.new
+        (map view_of area.old) (map view_of area.new)) }
     ensures no_fault { (result ≢ Err WalkStop.ReadFault) × (result ≢ Err WalkStop.WriteFault) }
 {
-    rows.back(area, split.mark);
-    if rows.right(area, &split.pick) {
-        Ok(())
+    if let Some(split) = split {
+        splits.push(split)?;
+        return Ok(Some(split.below));
+    }
+    let Some(split) = splits.take_top() else {
+        return Ok(None);
+    };
+    if begin_right(walk.pair.rows, area, &split) {
+        Ok(Some(split.below))
     } else {
         Err(WalkStop::Other)
     }

@@ -14,7 +14,7 @@ use crate::claiming::exceeds;
 use crate::course::Course;
 use crate::leaves::{cap_of, may_search};
 use crate::new_log::Out;
-use crate::walk::{OpenSplit, Walk, open_split, turn};
+use crate::walk::{OpenSplit, Walk, go_on, open_split};
 use box_advice::Hinter;
 use branch_tree::{BoxPlace, GoingOn};
 use dual_bound::Cert;
@@ -87,18 +87,12 @@ pub fn write_node<H: Hinter + Drop, G: EndGuide + Drop, F: Shelf>(
     let mut depth = walk.depth;
     'nodes: loop {
         let here = Walk { depth, ..walk };
-        match write_here(here, files, reader, course, area)? {
-            Some(split) => {
-                splits.push(split)?;
-                depth = split.below;
-            }
+        let split = write_here(here, files, reader, course, area)?;
+        match go_on(walk, area, &mut splits, split)? {
+            Some(below) => depth = below,
             None => {
-                let Some(split) = splits.take_top() else {
-                    walk.pair.rows.back(area, mark);
-                    return Ok(());
-                };
-                turn(walk.pair.rows, area, &split)?;
-                depth = split.below;
+                walk.pair.rows.back(area, mark);
+                return Ok(());
             }
         }
     }

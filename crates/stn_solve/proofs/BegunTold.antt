@@ -26,7 +26,7 @@ use Rattle.sum_slots.specs.Larger.{completed}
 use Rattle.sum_slots.specs.Shown.{AreRanges}
 use Rattle.branch_tree.specs.declared.ended.Ended.{Ended}
 use Rattle.branch_tree.specs.Searched.{IsWorth}
-use Rattle.branch_tree.specs.laws.Ends.{better_of}
+use Rattle.branch_tree.specs.Compared.{better_of}
 use Rattle.branch_tree.proofs.Best.{better-first}
 use Rattle.plan_told.specs.Claims.{HaveBytes}
 use Rattle.plan_told.specs.Given.{cut_found, given_best, given_end}

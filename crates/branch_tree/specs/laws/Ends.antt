@@ -1,5 +1,5 @@
 -- How the nodes of a search end, and what its choices are. Only clauses of private functions cite it.
-use Rattle.std.specs.Prelude.{◌≡◌, ◌≢◌, ℕ, ◌^◌, ◌<◌, Bool, true, false, if◌then◌else◌, List, length, take, Option, Some, None, IfSome, ℤ, ◌≤ℤ◌, int_lt, unsigned_abs, ⊤}
+use Rattle.std.specs.Prelude.{◌≡◌, ◌≢◌, ℕ, ◌^◌, ◌<◌, Bool, true, false, List, length, take, Option, Some, IfSome, ℤ, ◌≤ℤ◌, int_lt, unsigned_abs, ⊤}
 use Rattle.std.specs.List.{Contains, sum_by}
 use Rattle.std.specs.Option.{IsSomeAnd}
 use Rattle.row_kit.specs.declared.domain.Domain.{Domain}
@@ -19,6 +19,7 @@ use Rattle.row_relax.specs.Choices.{choices_of, steps_of}
 use Rattle.row_relax.specs.Settle.{are_single}
 use Rattle.row_relax.specs.Steps.{row_steps}
 use Rattle.row_relax.specs.View.{Fits, domains_of}
+use Rattle.branch_tree.specs.Compared.{is_over}
 use Rattle.branch_tree.specs.Justified.{RowNode, IsGroup, IsPolished, IsParted, HasCause, IsLeftOpen, found_up_to, left_by}
 use Rattle.row_relax.specs.RowProofs.{RowItem}
 use Rattle.branch_tree.specs.Splits.{splits_of}
@@ -65,13 +66,6 @@ ItemEnds rows given view found Point = EndDone rows given view found (closed one
 ItemEnds rows given view found (Split pick cert) = EndDone rows given view found (parted pick cert)
 ItemEnds rows given view found _ = ⊥
 
--- a cap leaves something above the best worth
-abbrev pub is_over : Capped → Option ℤ → Bool
-is_over NoPoint best = false
-is_over Bad best = true
-is_over (AtMost cap) None = true
-is_over (AtMost cap) (Some worth) = int_lt worth cap
-
 -- a cap says more than another: that there is no point, or a lesser number
 abbrev pub says_more : Capped → Capped → Bool
 says_more NoPoint (AtMost most) = true
@@ -94,12 +88,6 @@ IsBoxVerdict rows floors given domains best (Split pick cert) =
     IsPolished rows.program domains cert × IsParted given (left_by rows.program domains cert pick.floor) pick × (is_over (cert_cap rows.program domains cert) best ≡ true)
     × IfSome pick.floor (IsFloor floors best)
 IsBoxVerdict rows floors given domains best _ = ⊥
-
--- the one of two found points that is worth more, the first where both are worth the same
-abbrev pub better_of : Option Found → Option Found → Option Found
-better_of None other = other
-better_of (Some one) None = Some one
-better_of (Some one) (Some other) = if int_lt one.value other.value then Some other else Some one
 
 -- a found point is there that is worth as much as a cap says, where it says a number
 abbrev pub Reaches : Capped → Option Found → Type 0

@@ -19,7 +19,7 @@ use Rattle.log_parts.specs.Heads.{front_text, joined_version}
 use Rattle.log_parts.specs.Joining.{plan_of}
 use Rattle.log_parts.specs.PartLogs.{logs_of, no_tree}
 use Rattle.log_parts.specs.laws.Copying.{whole_text}
-use Rattle.log_resuming.specs.Resumed.{IsNoMore, IsOpenClaim, cap_of, profit_of}
+use Rattle.opened_logs.specs.Claims.{IsNoMore, IsOpenClaim, cap_of, profit_of}
 use Rattle.merged_nodes.specs.declared.sources.Source.{Source}
 use Rattle.merge_ends.specs.declared.readers.Work.{Work}
 use Rattle.merged_nodes.specs.Merged.{IsMerged}

@@ -12,9 +12,10 @@ use Rattle.log_nodes.specs.Texts.{IsTextBehind}
 use Rattle.log_parts.specs.declared.heads.LogHead.{LogHead}
 use Rattle.valid_log.specs.declared.verdict.LogVerdict.TheVariants.{Yes}
 use Rattle.valid_log.specs.PlantLogs.{IsAnyChecked}
-use Rattle.log_resuming.specs.declared.opened.Opened.{Opened}
-use Rattle.log_resuming.specs.Opened.{IsOpened, front_of}
-use Rattle.log_resuming.specs.Resumed.{IsNoLess, IsNoMore, IsOpenClaim, IsResumed, cap_of, profit_of}
+use Rattle.opened_logs.specs.declared.opened.Opened.{Opened}
+use Rattle.opened_logs.specs.Opened.{IsOpened, front_of}
+use Rattle.opened_logs.specs.Claims.{IsNoLess, IsNoMore, IsOpenClaim, cap_of, profit_of}
+use Rattle.log_resuming.specs.Resumed.{IsResumed}
 
 -- the proof of a log with this head goes on from that of a log that is opened, as going on from it comes to where at most so many splits may
 -- stand one below another

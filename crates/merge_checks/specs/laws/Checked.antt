@@ -8,9 +8,9 @@ use Rattle.valid_log.specs.PlantLogs.{IsAnyChecked}
 use Rattle.log_parts.specs.declared.heads.Declared.{Declared}
 use Rattle.log_parts.specs.declared.heads.LogHead.{LogHead}
 use Rattle.log_parts.specs.Heads.{HasNewest, lines_on}
-use Rattle.log_resuming.specs.declared.opened.Opened.{Opened}
-use Rattle.log_resuming.specs.Opened.{IsOpened, front_of}
-use Rattle.log_resuming.specs.Resumed.{IsOpenClaim}
+use Rattle.opened_logs.specs.declared.opened.Opened.{Opened}
+use Rattle.opened_logs.specs.Opened.{IsOpened, front_of}
+use Rattle.opened_logs.specs.Claims.{IsOpenClaim}
 use Rattle.merge_checks.specs.declared.checked.Checked.{Checked}
 use Rattle.merge_checks.specs.declared.checked.Checked.TheVariants.{All as AllValid, Bad}
 use Rattle.merge_checks.specs.declared.checked.LogCheck.{LogCheck}

@@ -1,5 +1,5 @@
 -- A box is its first items, its found point and its end; an end that is a split has both its parts.
-use Rattle.std.proofs.Common.{◌≡◌, Bool, length, take, ◌+◌, ◌≤◌, List, [], ◌∷◌, ◌++◌, map, Some, None, option_to_list, refl, sym, ap, ◌∙◌, subst, arith, rules, true, false}
+use Rattle.std.proofs.Common.{◌≡◌, Bool, length, ◌+◌, ◌≤◌, List, [], ◌∷◌, ◌++◌, map, Some, None, option_to_list, refl, sym, ap, ◌∙◌, subst, arith, rules, true, false}
 use Rattle.std.specs.Prelude.{IfSome}
 use Rattle.std.proofs.lemmas.Result.{IfOk-weaker, on_err_weaker, on_ok_weaker}
 use Rattle.row_kit.specs.declared.domain.Domain.{Domain}
@@ -9,7 +9,6 @@ use Rattle.row_relax.specs.Steps.{row_steps}
 use Rattle.row_relax.specs.View.{domains_of, points_in, view_of}
 use Rattle.row_relax.proofs.Marks.{domains-views, fits_slots}
 use Rattle.range_prop.specs.Cuts.{HaveRoom}
-use Rattle.proof_tree.specs.Views.{MovesTo, present as last_view}
 use Rattle.row_relax.specs.Choices.{steps_of}
 use Rattle.branch_tree.specs.Searched.{IsBest, IsFitItem}
 use Rattle.branch_tree.specs.laws.Ends.{ItemEnds, view_splits}
@@ -20,7 +19,7 @@ use Rattle.branch_tree.proofs.Caps.{total-fit}
 use Rattle.branch_tree.proofs.Depths.{cuts_leave, splits-left, splits-right}
 use Rattle.branch_tree.proofs.Forgotten.{IsLeftTo, left_to, parted_there, room_left}
 use Rattle.branch_tree.proofs.Handing.{both_ok, box_handed, open_handed, parts_handed, split_handed, tail_dual, tail_empty, tail_point, tail_split}
-use Rattle.branch_tree.proofs.Standing.{kept_length, left_is, left_stands, left_there, moved_to, own_later, part_each_open, parts_fewer, right_is, right_stands, right_there, stands_after, stands_left, stands_on}
+use Rattle.branch_tree.proofs.Standing.{back_at, kept_length, left_is, left_moved, left_stands, own_later, part_each_open, parts_fewer, parts_moved, right_is, right_stands, right_there, stands_after, stands_on}
 use Rattle.branch_tree.proofs.Stopping.{at_err, box_before, box_in_head, box_in_look, box_in_tail, open_stopped, parts_in_first, parts_in_second, parts_of_rest, tail_at_item, tail_in_parts}
 use Rattle.branch_tree.proofs.Trees.{tree-depth}
 use Rattle.branch_tree.proofs.Verdicts.{ends-only, ends-room, ends-same, pending-fit}
@@ -53,7 +52,7 @@ search_box-search_end-requires g t c =
     let leave = cuts_leave rows head.cuts (seen c.args.area.now) (seen c.open_box.new.area) c.requires.stands.fits head.moved in
     let fewer : points_in (seen c.look.new.area) ≤ points_in (seen c.args.area.now) = subst (λ (ms : List (List Domain)). points_in (seen ms) ≤ points_in (seen c.args.area.now)) (sym c.look.ensures.same) leave.points in
     let there : StandsIn c.args.ground.now (seen c.open_box.new.area) c.look.new.reached =
-    stands_on c.args.ground.now (seen c.args.area.now) (seen c.open_box.new.area) c.args.reached.now c.look.new.reached c.requires.stands leave c.look.ensures.places (c.look.ensures.changed ∙ c.take.ensures.after) c.in_ok-item.ensures.none c.look.ensures.depth in
+    stands_on c.args.ground.now (seen c.args.area.now) (seen c.open_box.new.area) c.args.reached.now c.look.new.reached c.requires.stands leave.fits leave.splits c.look.ensures.places (c.look.ensures.changed ∙ c.take.ensures.after) c.in_ok-item.ensures.none c.look.ensures.depth in
     let back : c.open_box.new.area ≡ c.look.new.area = sym c.look.ensures.same in
     let stands : StandsIn c.args.ground.now (seen c.look.new.area) c.look.new.reached = subst (λ (ms : List (List Domain)). StandsIn c.args.ground.now (seen ms) c.look.new.reached) back there in
     let can : GoesOn (g.T.NodeTaker.ready c.look.new.taker c.look.new.out) c.args.ground.now (seen c.look.new.area) c.look.new.reached =
@@ -86,8 +85,7 @@ search_box-back-requires-clause-within g t c =
 pub search_box-returns-clause-left : goal.search_box-returns-clause-left
 search_box-returns-clause-left g t c = record {
   ready = c.in_ok-cap.ensures.left.ready;
-  as_before = c.back.ensures.views ∙ ap (take (c.mark-start.result + 1)) (c.in_ok-cap.ensures.left.as_before ∙ ap (map view_of) c.look.ensures.same)
-      ∙ ap (λ n. take n (map view_of c.open_box.new.area)) c.mark-start.ensures ∙ c.in_ok-open_box.ensures.keeps;
+  as_before = back_at (map view_of c.args.area.now) (map view_of c.open_box.new.area) (map view_of c.search_end.new.area) (map view_of c.back.new.area) c.mark-start.result c.mark-start.ensures c.in_ok-open_box.ensures.keeps (c.in_ok-cap.ensures.left.as_before ∙ ap (map view_of) c.look.ensures.same) c.back.ensures.views;
   within = c.in_ok-cap.ensures.left.within;
   none = c.in_ok-cap.ensures.left.none;
 }
@@ -207,7 +205,7 @@ search_split-search_parts-requires g t c =
     let rest : (row_steps program).trim view pick c.args.split.cert.now ≡ seen c.trim-floor.new.area = sym c.trim-floor.ensures.trimmed in
     let less : IsLeftTo program view (seen c.trim-floor.new.area) = subst (IsLeftTo program view) rest (left_to program view pick c.args.split.cert.now c.requires.can.stands.fits) in
     let fewer : points_in (seen c.trim-floor.new.area) ≤ points_in view = less.points in
-    let stands = stands_left c.args.ground.now view (seen c.trim-floor.new.area) c.args.reached.now (record c.args.reached.now { changed = None }) c.requires.can.stands less refl refl c.requires.can.none refl in
+    let stands = stands_on c.args.ground.now view (seen c.trim-floor.new.area) c.args.reached.now (record c.args.reached.now { changed = None }) c.requires.can.stands less.fits less.splits refl refl c.requires.can.none refl in
     let can : GoesOn (g.T.NodeTaker.ready c.args.taker.now c.args.out.now) c.args.ground.now (seen c.trim-floor.new.area) (record c.args.reached.now { changed = None }) =
     record { ready = c.requires.can.ready; stands = stands; within = c.requires.can.within; none = c.requires.can.none } in
     let room = subst (λ v. IfSome (slot_alone pick.floor pick.slot) (λ slot. HaveRoom program.rows (domains_of v))) rest (room_left program view pick c.args.split.cert.now c.requires.room) in
@@ -228,7 +226,7 @@ search_split-back-requires-clause-within g t c =
 pub search_split-returns-clause-left : goal.search_split-returns-clause-left
 search_split-returns-clause-left g t c = record {
   ready = c.in_ok-cap.ensures.left.ready;
-  as_before = c.back.ensures.views ∙ ap (take (c.mark-start.result + 1)) c.in_ok-cap.ensures.left.as_before ∙ ap (λ n. take n (map view_of c.trim-floor.new.area)) c.mark-start.ensures ∙ c.trim-floor.ensures.keeps;
+  as_before = back_at (map view_of c.args.area.now) (map view_of c.trim-floor.new.area) (map view_of c.search_parts.new.area) (map view_of c.back.new.area) c.mark-start.result c.mark-start.ensures c.trim-floor.ensures.keeps c.in_ok-cap.ensures.left.as_before c.back.ensures.views;
   within = c.in_ok-cap.ensures.left.within;
   none = c.in_ok-cap.ensures.left.none;
 }
@@ -247,8 +245,7 @@ search_parts-search_part-requires g t c =
     let view = seen c.args.area.now in
     let pick = c.args.split.pick.now in
     let parts = c.requires.split.parted in
-    let part = left_there program view pick parts in
-    let left = moved_to ((row_steps program).left view pick) (map view_of c.args.area.now) (map view_of c.left.new.area) c.left.result part.0 part.1 c.left.ensures.moves in
+    let left = left_moved program c.args.area.now c.left.new.area pick c.left.result c.requires.split.parted c.left.ensures.moves in
     let other = right_there program view pick parts in
     let fewer = (parts_fewer program view (seen c.left.new.area) other.0 pick c.requires.can.stands.fits parts left.0 other.1).0 in
     let stands = left_stands c.args.ground.now view (seen c.left.new.area) pick c.args.split.cert.now c.args.reached.now (record c.args.reached.now { depth = c.args.reached.now.depth + 1; changed = c.slot_alone-reached.result }) c.requires.can.stands c.requires.room c.requires.split left.0 refl c.slot_alone-reached.ensures c.requires.can.none refl in
@@ -263,18 +260,14 @@ search_parts-returns-in_err-first-clause-err g t c =
     let view = seen c.args.area.now in
     let pick = c.args.split.pick.now in
     let parts = c.requires.split.parted in
-    let part = left_there rows.program view pick parts in
-    let left = moved_to ((steps_of rows).left view pick) (map view_of c.args.area.now) (map view_of c.left.new.area) c.left.result part.0 part.1 c.left.ensures.moves in
+    let left = left_moved rows.program c.args.area.now c.left.new.area pick c.left.result c.requires.split.parted c.left.ensures.moves in
     at_err _ _ (parts_in_first g.T.NodeTaker.took g.T.NodeTaker.broke rows c.args.ground.now.floors view (seen c.left.new.area) _ _ _ _ (splits-left rows.program view (seen c.left.new.area) pick parts left.0) c.in_err-first.ensures.err)
 
 pub search_parts-back-requires-clause-within : goal.search_parts-back-requires-clause-within
 search_parts-back-requires-clause-within g t c =
     let program = program_of c.args.ground.now in
-    let view = seen c.args.area.now in
     let pick = c.args.split.pick.now in
-    let parts = c.requires.split.parted in
-    let part = left_there program view pick parts in
-    let left = moved_to ((row_steps program).left view pick) (map view_of c.args.area.now) (map view_of c.left.new.area) c.left.result part.0 part.1 c.left.ensures.moves in
+    let left = left_moved program c.args.area.now c.left.new.area pick c.left.result c.requires.split.parted c.left.ensures.moves in
     omega (arith, c.mark-mark.ensures, kept_length (map view_of c.args.area.now) (map view_of c.left.new.area) left.1, ap length c.in_ok-first.ensures.left.as_before)
 
 pub search_parts-search_part-requires-2 : goal.search_parts-search_part-requires-2
@@ -283,19 +276,13 @@ search_parts-search_part-requires-2 g t c =
     let view = seen c.args.area.now in
     let pick = c.args.split.pick.now in
     let parts = c.requires.split.parted in
-    let part = left_there program view pick parts in
-    let left = moved_to ((row_steps program).left view pick) (map view_of c.args.area.now) (map view_of c.left.new.area) c.left.result part.0 part.1 c.left.ensures.moves in
-    let same : map view_of c.back.new.area ≡ map view_of c.args.area.now =
-    c.back.ensures.views ∙ ap (take (c.mark-mark.result + 1)) c.in_ok-first.ensures.left.as_before ∙ ap (λ n. take n (map view_of c.left.new.area)) c.mark-mark.ensures ∙ left.1 in
-    let other = right_there program view pick parts in
-    let moves = subst (λ views. MovesTo ((row_steps program).right (last_view views) pick) views (map view_of c.right.new.area) c.right.result) same c.right.ensures.moves in
-    let right = moved_to ((row_steps program).right view pick) (map view_of c.args.area.now) (map view_of c.right.new.area) c.right.result other.0 other.1 moves in
-    let fewer = (parts_fewer program view (seen c.left.new.area) (seen c.right.new.area) pick c.requires.can.stands.fits parts left.0 right.0).1 in
+    let both = parts_moved program c.args.area.now c.left.new.area c.search_part.new.area c.back.new.area c.right.new.area pick c.left.result c.right.result c.mark-mark.result c.requires.split.parted c.left.ensures.moves c.mark-mark.ensures c.in_ok-first.ensures.left.as_before c.back.ensures.views c.right.ensures.moves in
+    let fewer = (parts_fewer program view (seen c.left.new.area) (seen c.right.new.area) pick c.requires.can.stands.fits parts both.left.0 both.right.0).1 in
     let places : length c.search_part.new.reached.point.items ≡ length c.args.reached.now.point.items = c.search_part.ensures.places in
-    let stands = right_stands c.args.ground.now view (seen c.right.new.area) pick c.args.split.cert.now c.args.reached.now (record c.search_part.new.reached { depth = c.args.reached.now.depth + 1; changed = c.slot_alone-reached-2.result }) c.requires.can.stands c.requires.room c.requires.split right.0 places c.slot_alone-reached-2.ensures c.in_ok-first.ensures.left.none refl in
+    let stands = right_stands c.args.ground.now view (seen c.right.new.area) pick c.args.split.cert.now c.args.reached.now (record c.search_part.new.reached { depth = c.args.reached.now.depth + 1; changed = c.slot_alone-reached-2.result }) c.requires.can.stands c.requires.room c.requires.split both.right.0 places c.slot_alone-reached-2.ensures c.in_ok-first.ensures.left.none refl in
     let can : GoesOn (g.T.NodeTaker.ready c.search_part.new.taker c.search_part.new.out) c.args.ground.now (seen c.right.new.area) (record c.search_part.new.reached { depth = c.args.reached.now.depth + 1; changed = c.slot_alone-reached-2.result }) =
     record { ready = c.in_ok-first.ensures.left.ready; stands = stands; within = c.in_ok-first.ensures.left.within; none = c.in_ok-first.ensures.left.none } in
-    let is_part = right_is program view (seen c.right.new.area) pick c.args.split.cert.now c.requires.split right.0 in
+    let is_part = right_is program view (seen c.right.new.area) pick c.args.split.cert.now c.requires.split both.right.0 in
     search rules
 
 pub search_parts-returns-in_err-second-clause-err : goal.search_parts-returns-in_err-second-clause-err
@@ -304,50 +291,28 @@ search_parts-returns-in_err-second-clause-err g t c =
     let view = seen c.args.area.now in
     let pick = c.args.split.pick.now in
     let parts = c.requires.split.parted in
-    let part = left_there rows.program view pick parts in
-    let left = moved_to ((steps_of rows).left view pick) (map view_of c.args.area.now) (map view_of c.left.new.area) c.left.result part.0 part.1 c.left.ensures.moves in
-    let same : map view_of c.back.new.area ≡ map view_of c.args.area.now =
-    c.back.ensures.views ∙ ap (take (c.mark-mark.result + 1)) c.in_ok-first.ensures.left.as_before ∙ ap (λ n. take n (map view_of c.left.new.area)) c.mark-mark.ensures ∙ left.1 in
-    let other = right_there rows.program view pick parts in
-    let moves = subst (λ views. MovesTo ((steps_of rows).right (last_view views) pick) views (map view_of c.right.new.area) c.right.result) same c.right.ensures.moves in
-    let right = moved_to ((steps_of rows).right view pick) (map view_of c.args.area.now) (map view_of c.right.new.area) c.right.result other.0 other.1 moves in
+    let both = parts_moved rows.program c.args.area.now c.left.new.area c.search_part.new.area c.back.new.area c.right.new.area pick c.left.result c.right.result c.mark-mark.result c.requires.split.parted c.left.ensures.moves c.mark-mark.ensures c.in_ok-first.ensures.left.as_before c.back.ensures.views c.right.ensures.moves in
     let first = c.in_ok-first.ensures.handed in
     let done = first.done (Some c.args.split.cert.now) (option_to_list c.args.reached.now.best) refl (IsBest-itself c.args.reached.now.best) in
     let deep = tree-depth rows c.args.ground.now.given first.tree (Some c.args.split.cert.now) (option_to_list c.args.reached.now.best) (seen c.left.new.area) c.left.ensures.fits done in
-    let less = splits-left rows.program view (seen c.left.new.area) pick parts left.0 in
-    at_err _ _ (parts_in_second g.T.NodeTaker.took g.T.NodeTaker.broke rows c.args.ground.now.floors view (seen c.right.new.area) first.tree _ _ _ _ _ _ (omega (arith, deep, less)) (splits-right rows.program view (seen c.right.new.area) pick parts right.0) first.fit first.handed c.in_err-second.ensures.err)
+    let less = splits-left rows.program view (seen c.left.new.area) pick parts both.left.0 in
+    at_err _ _ (parts_in_second g.T.NodeTaker.took g.T.NodeTaker.broke rows c.args.ground.now.floors view (seen c.right.new.area) first.tree _ _ _ _ _ _ (omega (arith, deep, less)) (splits-right rows.program view (seen c.right.new.area) pick parts both.right.0) first.fit first.handed c.in_err-second.ensures.err)
 
 pub search_parts-back-requires-2-clause-within : goal.search_parts-back-requires-2-clause-within
 search_parts-back-requires-2-clause-within g t c =
     let program = program_of c.args.ground.now in
-    let view = seen c.args.area.now in
     let pick = c.args.split.pick.now in
-    let parts = c.requires.split.parted in
-    let part = left_there program view pick parts in
-    let left = moved_to ((row_steps program).left view pick) (map view_of c.args.area.now) (map view_of c.left.new.area) c.left.result part.0 part.1 c.left.ensures.moves in
-    let same : map view_of c.back.new.area ≡ map view_of c.args.area.now =
-    c.back.ensures.views ∙ ap (take (c.mark-mark.result + 1)) c.in_ok-first.ensures.left.as_before ∙ ap (λ n. take n (map view_of c.left.new.area)) c.mark-mark.ensures ∙ left.1 in
-    let other = right_there program view pick parts in
-    let moves = subst (λ views. MovesTo ((row_steps program).right (last_view views) pick) views (map view_of c.right.new.area) c.right.result) same c.right.ensures.moves in
-    let right = moved_to ((row_steps program).right view pick) (map view_of c.args.area.now) (map view_of c.right.new.area) c.right.result other.0 other.1 moves in
-    omega (arith, c.mark-mark.ensures, kept_length (map view_of c.args.area.now) (map view_of c.right.new.area) right.1, ap length c.in_ok-second.ensures.left.as_before)
+    let both = parts_moved program c.args.area.now c.left.new.area c.search_part.new.area c.back.new.area c.right.new.area pick c.left.result c.right.result c.mark-mark.result c.requires.split.parted c.left.ensures.moves c.mark-mark.ensures c.in_ok-first.ensures.left.as_before c.back.ensures.views c.right.ensures.moves in
+    omega (arith, c.mark-mark.ensures, kept_length (map view_of c.args.area.now) (map view_of c.right.new.area) both.right.1, ap length c.in_ok-second.ensures.left.as_before)
 
 pub search_parts-returns-clause-left : goal.search_parts-returns-clause-left
 search_parts-returns-clause-left g t c =
     let program = program_of c.args.ground.now in
-    let view = seen c.args.area.now in
     let pick = c.args.split.pick.now in
-    let parts = c.requires.split.parted in
-    let part = left_there program view pick parts in
-    let left = moved_to ((row_steps program).left view pick) (map view_of c.args.area.now) (map view_of c.left.new.area) c.left.result part.0 part.1 c.left.ensures.moves in
-    let same : map view_of c.back.new.area ≡ map view_of c.args.area.now =
-    c.back.ensures.views ∙ ap (take (c.mark-mark.result + 1)) c.in_ok-first.ensures.left.as_before ∙ ap (λ n. take n (map view_of c.left.new.area)) c.mark-mark.ensures ∙ left.1 in
-    let other = right_there program view pick parts in
-    let moves = subst (λ views. MovesTo ((row_steps program).right (last_view views) pick) views (map view_of c.right.new.area) c.right.result) same c.right.ensures.moves in
-    let right = moved_to ((row_steps program).right view pick) (map view_of c.args.area.now) (map view_of c.right.new.area) c.right.result other.0 other.1 moves in
+    let both = parts_moved program c.args.area.now c.left.new.area c.search_part.new.area c.back.new.area c.right.new.area pick c.left.result c.right.result c.mark-mark.result c.requires.split.parted c.left.ensures.moves c.mark-mark.ensures c.in_ok-first.ensures.left.as_before c.back.ensures.views c.right.ensures.moves in
     record {
       ready = c.in_ok-second.ensures.left.ready;
-      as_before = c.back-2.ensures.views ∙ ap (take (c.mark-mark.result + 1)) c.in_ok-second.ensures.left.as_before ∙ ap (λ n. take n (map view_of c.right.new.area)) c.mark-mark.ensures ∙ right.1;
+      as_before = back_at (map view_of c.args.area.now) (map view_of c.right.new.area) (map view_of c.search_part-2.new.area) (map view_of c.back-2.new.area) c.mark-mark.result c.mark-mark.ensures both.right.1 c.in_ok-second.ensures.left.as_before c.back-2.ensures.views;
       within = c.in_ok-second.ensures.left.within;
       none = c.in_ok-second.ensures.left.none;
     }
@@ -357,15 +322,8 @@ search_parts-returns-clause-handed g t c =
     let rows = rows_of c.args.ground.now in
     let view = seen c.args.area.now in
     let pick = c.args.split.pick.now in
-    let parts = c.requires.split.parted in
-    let part = left_there rows.program view pick parts in
-    let left = moved_to ((steps_of rows).left view pick) (map view_of c.args.area.now) (map view_of c.left.new.area) c.left.result part.0 part.1 c.left.ensures.moves in
-    let same : map view_of c.back.new.area ≡ map view_of c.args.area.now =
-    c.back.ensures.views ∙ ap (take (c.mark-mark.result + 1)) c.in_ok-first.ensures.left.as_before ∙ ap (λ n. take n (map view_of c.left.new.area)) c.mark-mark.ensures ∙ left.1 in
-    let other = right_there rows.program view pick parts in
-    let moves = subst (λ views. MovesTo ((steps_of rows).right (last_view views) pick) views (map view_of c.right.new.area) c.right.result) same c.right.ensures.moves in
-    let right = moved_to ((steps_of rows).right view pick) (map view_of c.args.area.now) (map view_of c.right.new.area) c.right.result other.0 other.1 moves in
+    let both = parts_moved rows.program c.args.area.now c.left.new.area c.search_part.new.area c.back.new.area c.right.new.area pick c.left.result c.right.result c.mark-mark.result c.requires.split.parted c.left.ensures.moves c.mark-mark.ensures c.in_ok-first.ensures.left.as_before c.back.ensures.views c.right.ensures.moves in
     let all = parts_handed g.T.NodeTaker.took rows c.args.ground.now.floors c.args.ground.now.given c.args.ground.now.budget c.args.ground.now.may_leave view (seen c.left.new.area) (seen c.right.new.area) pick c.args.split.cert.now c.in_ok-first.first c.in_ok-second.second
     c.args.reached.now (record c.args.reached.now { depth = c.args.reached.now.depth + 1; changed = c.slot_alone-reached.result }) c.search_part.new.reached (record c.search_part.new.reached { depth = c.args.reached.now.depth + 1; changed = c.slot_alone-reached-2.result }) c.search_part-2.new.reached _ _ _ _ _ _
-    refl refl refl refl c.in_ok-second.ensures.left.within left.0 right.0 c.in_ok-first.ensures.handed c.in_ok-second.ensures.handed in
+    refl refl refl refl c.in_ok-second.ensures.left.within both.left.0 both.right.0 c.in_ok-first.ensures.handed c.in_ok-second.ensures.handed in
     subst (λ cap. PartsHanded g.T.NodeTaker.took rows c.args.ground.now.floors c.args.ground.now.given c.args.ground.now.budget c.args.ground.now.may_leave view pick c.args.split.cert.now cap c.args.reached.now c.args.taker.now c.args.out.now c.search_part-2.new.reached c.search_part-2.new.taker c.search_part-2.new.out) (sym c.greater_cap.ensures) all

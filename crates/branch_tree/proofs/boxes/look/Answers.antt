@@ -6,7 +6,8 @@ use Rattle.row_kit.specs.Area.{present}
 use Rattle.row_kit.specs.declared.found.Found.{Found}
 use Rattle.row_relax.proofs.Marks.{fits_normal, fits_slots}
 use Rattle.branch_tree.specs.Searched.{IsBest}
-use Rattle.branch_tree.specs.laws.Ends.{IsBoxVerdict, better_of}
+use Rattle.branch_tree.specs.Compared.{better_of}
+use Rattle.branch_tree.specs.laws.Ends.{IsBoxVerdict}
 use Rattle.branch_tree.specs.laws.Grounds.{IsOwnBest, program_of, seen, rows_of}
 use Rattle.branch_tree.proofs.Best.{IsBest-more, own-best}
 use Rattle.branch_tree.proofs.Growing.{Grows-none}

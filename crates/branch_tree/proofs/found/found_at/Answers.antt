@@ -4,7 +4,8 @@ use Rattle.std.specs.Prelude.{IfSome, ◌≤ℤ◌}
 use Rattle.std.specs.Option.{IsSomeAnd}
 use Rattle.row_kit.specs.Area.{present}
 use Rattle.row_relax.specs.Choices.{settled_in}
-use Rattle.branch_tree.specs.laws.Ends.{better_of, Reaches}
+use Rattle.branch_tree.specs.Compared.{better_of}
+use Rattle.branch_tree.specs.laws.Ends.{Reaches}
 use Rattle.branch_tree.specs.laws.Grounds.{rows_of}
 use Rattle.branch_tree.proofs.Best.{better-first, better-second, own-third, reaches-better}
 use Rattle.branch_tree.proofs.found.found_at.Goals as goal

@@ -2,7 +2,7 @@
 use Rattle.std.proofs.Common.{◌≡◌, true, ap, sym, ◌∙◌}
 use Rattle.row_kit.specs.Area.{present}
 use Rattle.dual_bound.specs.Cap.{cert_cap}
-use Rattle.branch_tree.specs.laws.Ends.{is_over}
+use Rattle.branch_tree.specs.Compared.{is_over}
 use Rattle.branch_tree.specs.laws.Grounds.{program_of}
 use Rattle.branch_tree.proofs.Caps.{polished}
 use Rattle.branch_tree.proofs.judging.settle_or_split.Goals as goal

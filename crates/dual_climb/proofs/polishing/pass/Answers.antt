@@ -11,7 +11,7 @@ use Rattle.dual_climb.specs.RowBest.{BestBy}
 use Rattle.dual_climb.proofs.Lowered.{lowered_more}
 use Rattle.dual_climb.proofs.Passes.{each_or, one_more}
 use Rattle.dual_climb.proofs.polishing.pass.Goals as goal
-use Rattle.dual_climb.proofs.polishing.pass.Goals.{then-step, else-step}
+use Rattle.dual_climb.proofs.polishing.pass.Goals.{then-improve, else-improve}
 
 lower : (new old first : ℤ) (n : ℕ) → (new +ℤ pos n) ≤ℤ old → old ≤ℤ first → (new +ℤ pos n) ≤ℤ first
 lower new old first n h k = omega (arith, ints)
@@ -25,26 +25,26 @@ loop-number-preserved c =
     let ds = present c.args.area.now in
     let scale = c.args.scale in
     let fall = c.args.least_fall in
-    let new = c.step.new.held in
+    let new = c.improve.new.held in
     let old = c.loop-number.held in
     let inv = c.loop-number.invariant in
-    let changes = lowered_more fall p ds scale c.args.held.now.mults.items old.mults.items new.mults.items inv.changes c.step.ensures.changes in
-    elim c.if-step.branch [
-      | then-step w ↦
-          let fell = lower new.total old.total c.args.held.now.total fall (c.step.ensures.fell w.if-step.true) inv.never in
+    let changes = lowered_more fall p ds scale c.args.held.now.mults.items old.mults.items new.mults.items inv.changes c.improve.ensures.changes in
+    elim c.if-improve.branch [
+      | then-improve w ↦
+          let fell = lower new.total old.total c.args.held.now.total fall (c.improve.ensures.fell w.if-improve.true) inv.never in
           record {
-            held = c.step.ensures.held;
+            held = c.improve.ensures.held;
             never = under new.total c.args.held.now.total fall fell;
             fell = λ _. fell;
             changes = changes;
             same = λ e. absurd (false≢true (sym e ∙ w.changed-is));
             best = λ e. absurd (false≢true (sym e ∙ w.changed-is));
           }
-      | else-step w ↦
-          let same = c.step.ensures.same w.if-step.false in
-          let here = c.step.ensures.best w.if-step.false in
+      | else-improve w ↦
+          let same = c.improve.ensures.same w.if-improve.false in
+          let here = c.improve.ensures.best w.if-improve.false in
           record {
-            held = c.step.ensures.held;
+            held = c.improve.ensures.held;
             never = subst (λ (x : ℤ). x ≤ℤ c.args.held.now.total) (sym same.1) inv.never;
             changes = changes;
             fell = λ e. subst (λ (x : ℤ). (x +ℤ pos fall) ≤ℤ c.args.held.now.total) (sym same.1) (inv.fell (sym w.changed-is ∙ e));

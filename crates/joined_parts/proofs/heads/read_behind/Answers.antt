@@ -7,7 +7,7 @@ use Rattle.plant_check.proofs.HeadJudged.{few_derived, held_small}
 use Rattle.log_parts.specs.declared.heads.LogFront.TheVariants as head
 use Rattle.log_parts.specs.declared.heads.LogHead.{LogHead}
 use Rattle.log_parts.specs.laws.Checked.{IsFrontKept}
-use Rattle.joined_parts.proofs.Fronts.{head_declared}
+use Rattle.opened_logs.proofs.Fronts.{head_declared}
 use Rattle.joined_parts.proofs.heads.read_behind.Goals as goal
 
 pub read_tail-requires-clause-rows : goal.read_tail-requires-clause-rows

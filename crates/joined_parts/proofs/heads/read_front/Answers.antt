@@ -11,7 +11,7 @@ use Rattle.log_parts.specs.declared.heads.LogHead.{LogHead}
 use Rattle.log_parts.specs.laws.Checked.{IsFrontKept, no_head}
 use Rattle.log_parts.proofs.Copies.{ok_if}
 use Rattle.log_parts.proofs.Versions.{none_declared}
-use Rattle.joined_parts.proofs.Fronts.{bad_read, headed_read, none_read}
+use Rattle.opened_logs.proofs.Fronts.{bad_read, headed_read, none_read}
 use Rattle.joined_parts.proofs.heads.read_front.Goals as goal
 
 pub returns-in-Plain-clause-front : goal.returns-in-Plain-clause-front

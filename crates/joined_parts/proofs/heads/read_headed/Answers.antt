@@ -8,7 +8,7 @@ use Rattle.valid_log.proofs.LogFronts.{limits_same}
 use Rattle.plant_check.specs.Heads.{AreSetupsHeld, IsSetupsHeld}
 use Rattle.plant_check.proofs.HeadJudged.{held_of}
 use Rattle.log_parts.proofs.Copies.{ok_if}
-use Rattle.joined_parts.proofs.Fronts.{bad_setups, setups_counted, setups_read}
+use Rattle.opened_logs.proofs.Fronts.{bad_setups, setups_counted, setups_read}
 use Rattle.joined_parts.proofs.heads.read_headed.Goals as goal
 
 pub read_behind-requires-clause-held : goal.read_behind-requires-clause-held

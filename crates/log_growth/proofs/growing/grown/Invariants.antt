@@ -1,8 +1,8 @@
 -- The walk stands where what is left to do reads both proofs, and both logs can be read on.
 use Rattle.std.proofs.Common.{◌+◌, map}
 use Rattle.row_relax.specs.View.{view_of}
-use Rattle.log_growth.proofs.Remaining.{open_steps, way_steps}
-use Rattle.log_growth.proofs.Steps.{IsGrowing, place_of}
+use Rattle.open_splits.proofs.Remaining.{open_steps, way_steps}
+use Rattle.log_growth.proofs.Steps.{IsGrowing, depth_of, place_of}
 use Rattle.log_growth.proofs.growing.grown.Given as goal
 
 abbrev pub invariant-steps : goal.invariant-steps
@@ -17,4 +17,4 @@ invariant-steps g l =
     }) l.initial.files l.files (map view_of l.area) l.readers l.splits l.way
 
 abbrev pub decreases-steps : goal.decreases-steps
-decreases-steps g l = way_steps l.initial.pair.most l.way + open_steps l.initial.pair.most l.splits
+decreases-steps g l = way_steps l.initial.pair.most depth_of l.way + open_steps l.initial.pair.most l.splits

@@ -6,7 +6,7 @@ use Rattle.row_relax.specs.Steps.{row_steps}
 use Rattle.row_relax.specs.View.{view_of}
 use Rattle.log_nodes.specs.laws.Seen.{seen}
 use Rattle.log_nodes.proofs.Walking.{back-there}
-use Rattle.log_growth.proofs.ReadOn.{at-some}
+use Rattle.open_splits.proofs.Standing.{at-some}
 use Rattle.log_growth.proofs.nodes.grown_end.Goals as goal
 
 pub returns-in-Some-clause-grown : goal.returns-in-Some-clause-grown

@@ -1,7 +1,8 @@
 -- The next node is read in both logs: an end is counted, and a split is opened.
 use Rattle.std.proofs.Common.{◌∙◌, List, map, Option, refl, sym, subst}
 use Rattle.stn_edge.specs.Files.{FileMap}
-use Rattle.proof_tree.specs.Views.{View, present}
+use Rattle.std.proofs.Math.Seq.{take-length}
+use Rattle.proof_tree.specs.Views.{KeepsViews, View, present}
 use Rattle.row_relax.specs.View.{Fits, view_of}
 use Rattle.log_nodes.specs.Reading.{IsReading, ReadsOn}
 use Rattle.log_nodes.specs.laws.Nodes.{node_items}
@@ -9,11 +10,12 @@ use Rattle.log_nodes.specs.laws.Seen.{seen}
 use Rattle.log_nodes.proofs.Frames.{reads-then}
 use Rattle.log_nodes.proofs.Readings.{behind-items}
 use Rattle.log_nodes.proofs.Walking.{leaf-end}
+use Rattle.open_splits.proofs.Steps.{split-then}
 use Rattle.store_frames.specs.Frames.{OnlyReads}
 use Rattle.log_growth.specs.laws.Opened.{Grows, GrowsNode}
 use Rattle.log_growth.proofs.Grows.{node-grown}
-use Rattle.log_growth.proofs.OpenSplits.{opened-then}
-use Rattle.log_growth.proofs.ReadOn.{at-some, can-still, only-reads}
+use Rattle.log_growth.proofs.ReadOn.{can-still, only-reads}
+use Rattle.open_splits.proofs.Standing.{at-some}
 use Rattle.log_growth.proofs.nodes.grown_here.Goals as goal
 
 pub read_node-requires-2-clause-reading : goal.read_node-requires-2-clause-reading
@@ -35,8 +37,8 @@ returns-in-Split-clause-met g c =
     let other = c.in-Some-2.other in
     let read = at-some (λ n. ReadsOn told pair.log.now before.log (node_items n) here.log) c.in-Some.is c.in_ok-node.ensures.read in
     let read_out = subst (λ (files : Option FileMap). ReadsOn files pair.out.now before.out (node_items other) here.out) c.in_ok-node.ensures.same (at-some (λ n. ReadsOn mid pair.out.now before.out (node_items n) here.out) c.in-Some-2.is c.in_ok-other.ensures.read) in
-    let opened = at-some _ c.in-Some-open_split.is c.open_split.ensures in
-    opened-then pair told c.args.place views wide here c.in-Some-open_split.split (GrowsNode pair told c.args.place (present views) node other here) (Grows pair told c.args.place (present views) before)
+    let opened = at-some _ c.in-Some-open_split.is c.open_split.ensures.opened in
+    split-then (GrowsNode pair told c.args.place (present views) node other here) (Grows pair told c.args.place (present views) before)
     (λ later growth has. node-grown pair.most rows pair.profit pair.share c.args.place.depth c.args.place.number (present views) node other (λ items. ReadsOn told pair.log.now here.log items later.log) (λ items. ReadsOn told pair.out.now here.out items later.out)
     (λ items. ReadsOn told pair.log.now before.log items later.log) (λ items. ReadsOn told pair.out.now before.out items later.out) growth (behind-items told told pair.log.now before.log here.log later.log (node_items node) refl read) (behind-items told told pair.out.now before.out here.out later.out (node_items other) refl read_out) has)
     (opened told here)
@@ -44,12 +46,6 @@ returns-in-Split-clause-met g c =
 pub returns-in-Split-clause-out_reading : goal.returns-in-Split-clause-out_reading
 returns-in-Split-clause-out_reading g c =
     subst (λ (files : Option FileMap). IsReading files c.args.pair.out.now c.read_node-2.new.reader) c.in_ok-node.ensures.same (at-some (λ _. IsReading (g.F.Shelf.files c.read_node.new.files) c.args.pair.out.now c.read_node-2.new.reader) c.in-Some-2.is c.in_ok-other.ensures.reading)
-
-pub returns-in-Split-clause-fits : goal.returns-in-Split-clause-fits
-returns-in-Split-clause-fits g c =
-    let before = c.args.readers.now in
-    let here = record before { log = c.read_node.new.reader; out = c.read_node-2.new.reader } in
-    (at-some _ c.in-Some-open_split.is c.open_split.ensures (g.F.Shelf.files c.args.files.now) here).below.fits
 
 -- ---- an end
 
@@ -74,6 +70,7 @@ returns-in-Some-3-clause-met g c =
     let mid = g.F.Shelf.files c.read_node.new.files in
     let now = g.F.Shelf.files c.read_node-2.new.files in
     let view = seen c.args.area.now in
+    let views = map view_of c.args.area.now in
     let before = c.args.readers.now in
     let here = record before { log = c.read_node.new.reader; out = c.read_node-2.new.reader } in
     let later = c.grown_end.new.readers in
@@ -83,7 +80,7 @@ returns-in-Some-3-clause-met g c =
     let read = at-some (λ n. ReadsOn told pair.log.now before.log (node_items n) here.log) c.in-Some.is c.in_ok-node.ensures.read in
     let read_out = subst (λ (files : Option FileMap). ReadsOn files pair.out.now before.out (node_items other) here.out) c.in_ok-node.ensures.same (at-some (λ n. ReadsOn mid pair.out.now before.out (node_items n) here.out) c.in-Some-2.is c.in_ok-other.ensures.read) in
     let grew = at-some _ c.in-Some-3.is c.in_ok-growth.ensures.grown in (
-      grew.as_before,
+      subst (KeepsViews views) (sym grew.as_before) (take-length views),
       node-grown pair.most rows pair.profit pair.share c.args.place.depth c.args.place.number view node other (λ items. ReadsOn now pair.log.now here.log items later.log) (λ items. ReadsOn now pair.out.now here.out items later.out)
           (λ items. ReadsOn told pair.log.now before.log items later.log) (λ items. ReadsOn told pair.out.now before.out items later.out) c.in-Some-3.growth (behind-items told now pair.log.now before.log here.log later.log (node_items node) same_now read) (behind-items told now pair.out.now before.out here.out later.out (node_items other) same_now read_out) grew.is_so,
     )

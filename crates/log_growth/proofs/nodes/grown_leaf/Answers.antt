@@ -8,7 +8,7 @@ use Rattle.log_nodes.specs.laws.Seen.{seen}
 use Rattle.log_nodes.specs.laws.Nodes.{HasBelow, leaf_of}
 use Rattle.log_nodes.proofs.Readings.{reads-none}
 use Rattle.log_growth.proofs.Grows.{IsEndCount, new-end, same-end}
-use Rattle.log_growth.proofs.ReadOn.{at-some}
+use Rattle.open_splits.proofs.Standing.{at-some}
 use Rattle.log_growth.proofs.nodes.grown_leaf.Goals as goal
 
 pub returns-then-is_same_node-clause-grown : goal.returns-then-is_same_node-clause-grown

@@ -7,7 +7,7 @@ use Rattle.log_growth.specs.declared.way.Readers.{Readers}
 use Rattle.log_growth.specs.laws.Grown.{CanGrow, HasGrown}
 use Rattle.log_nodes.specs.laws.Seen.{seen}
 use Rattle.log_growth.proofs.Ended.{are-grown}
-use Rattle.log_growth.proofs.ReadOn.{at-some}
+use Rattle.open_splits.proofs.Standing.{at-some}
 use Rattle.log_growth.proofs.whole.growth.Goals as goal
 
 pub grown-requires : goal.grown-requires

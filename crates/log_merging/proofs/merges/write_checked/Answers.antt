@@ -5,7 +5,7 @@ use Rattle.stn_edge.specs.Files.{FileMap, file_of}
 use Rattle.proof_log.specs.declared.claim.Claim.{Claim}
 use Rattle.valid_log.specs.declared.verdict.LogVerdict.TheVariants.{Yes}
 use Rattle.valid_log.specs.PlantLogs.{IsAnyChecked}
-use Rattle.log_resuming.specs.Resumed.{IsNoMore, cap_of}
+use Rattle.opened_logs.specs.Claims.{IsNoMore, cap_of}
 use Rattle.log_merging.specs.laws.Written.{HasWritten}
 use Rattle.log_merging.proofs.merges.write_checked.Goals as goal
 

@@ -4,7 +4,8 @@ use Rattle.stn_edge.specs.Files.{FileMap}
 use Rattle.log_lines.specs.declared.defect.Defect.{Defect}
 use Rattle.proof_log.specs.LogReading.{IsPartAfter}
 use Rattle.log_parts.specs.laws.Copying.{name_of, HasCopied, HasItems}
-use Rattle.log_parts.proofs.Copies.{HasReadOn, same_file, err_of, none_broken, on_broken, item_broken, copied_end, copied_bad, item_copied, claim_read, read_on}
+use Rattle.log_nodes.proofs.Stays.{same_file}
+use Rattle.log_parts.proofs.Copies.{HasReadOn, err_of, none_broken, on_broken, item_broken, copied_end, copied_bad, item_copied, claim_read, read_on}
 use Rattle.log_parts.proofs.Frames.{also-writes, both-none, both-then, item-put}
 use Rattle.log_parts.proofs.copying.copy_log.Goals as goal
 use Rattle.log_parts.proofs.copying.copy_log.Goals.{in-Item+in_ok-put_item-in-Item, in-Claim}

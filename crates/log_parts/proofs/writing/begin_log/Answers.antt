@@ -2,7 +2,8 @@
 use Rattle.std.proofs.Common.{◌∙◌, ◌++◌, List, ℕ, ap, subst}
 use Rattle.proof_log.specs.Writer.{writing, IsWhole}
 use Rattle.log_parts.specs.Heads.{front_text}
-use Rattle.log_parts.proofs.Writes.{clear_stays, cleared_stays, has_front}
+use Rattle.log_nodes.proofs.Stays.{clear_stays, cleared_stays}
+use Rattle.log_parts.proofs.Writes.{has_front}
 use Rattle.log_parts.proofs.writing.begin_log.Goals as goal
 
 pub returns-in-Ok-clause-begun : goal.returns-in-Ok-clause-begun

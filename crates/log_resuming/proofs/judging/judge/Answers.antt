@@ -7,8 +7,8 @@ use Rattle.log_parts.specs.Heads.{lines_on}
 use Rattle.valid_log.specs.declared.verdict.LogVerdict.{LogVerdict}
 use Rattle.valid_log.specs.Claims.{YesSays}
 use Rattle.valid_log.specs.PlantLogs.{IsAnyChecked}
-use Rattle.log_resuming.specs.declared.opened.Opened.{Opened}
-use Rattle.log_resuming.specs.Opened.{IsOpened}
+use Rattle.opened_logs.specs.declared.opened.Opened.{Opened}
+use Rattle.opened_logs.specs.Opened.{IsOpened}
 use Rattle.log_resuming.specs.laws.Judged.{IsMeasured}
 use Rattle.log_resuming.proofs.Judgements.{judges}
 use Rattle.log_resuming.proofs.judging.judge.Goals as goal

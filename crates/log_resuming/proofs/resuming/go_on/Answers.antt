@@ -5,8 +5,8 @@ use Rattle.stn_edge.specs.Files.{FileMap, OthersStay, file_of}
 use Rattle.valid_log.specs.Claims.{SaysOfPlans}
 use Rattle.log_nodes.proofs.Frames.{both-reads, both-then}
 use Rattle.log_resuming.specs.declared.judging.Judged.{Judged}
-use Rattle.log_resuming.specs.declared.opened.Opened.{Opened}
-use Rattle.log_resuming.specs.Opened.{IsOpened}
+use Rattle.opened_logs.specs.declared.opened.Opened.{Opened}
+use Rattle.opened_logs.specs.Opened.{IsOpened}
 use Rattle.log_resuming.specs.Resumed.{IsResumingIn}
 use Rattle.log_resuming.specs.laws.Judged.{Judges}
 use Rattle.log_resuming.proofs.Judgements.{ok_if, resumed-in, resuming-stays}

@@ -1,7 +1,7 @@
 -- A right verdict, and the head of the log.
 use Rattle.std.proofs.Common.{◌∙◌, Option, IfSome, subst}
-use Rattle.log_resuming.specs.declared.opened.Opened.{Opened}
-use Rattle.log_resuming.specs.Opened.{IsOpened}
+use Rattle.opened_logs.specs.declared.opened.Opened.{Opened}
+use Rattle.opened_logs.specs.Opened.{IsOpened}
 use Rattle.stn_edge.specs.Files.{file_of}
 use Rattle.merge_checks.proofs.LogsChecked.{log-valid}
 use Rattle.merge_checks.proofs.checking.check_log.Goals as goal

@@ -1,132 +1,119 @@
 -- Each step leaves less to do, and what follows behind it is what was to follow.
-use Rattle.std.proofs.Common.{◌∙◌, ◌+◌, ℕ, List, ◌∷◌, map, Option, Some, sym, ap, subst}
-use Rattle.std.specs.Prelude.{IfSome}
-use Rattle.stn_edge.specs.Files.{OthersStay}
+use Rattle.std.proofs.Common.{◌≡◌, ◌∙◌, ℕ, ℤ, List, [], ◌∷◌, map, Option, Some, refl, sym, ap, subst}
+use Rattle.std.proofs.Math.Seq.{take-length}
 use Rattle.proof_tree.specs.declared.capped.Capped.{Capped}
-use Rattle.row_relax.specs.View.{Fits, view_of}
-use Rattle.log_nodes.specs.laws.Seen.{seen}
+use Rattle.row_relax.specs.View.{view_of}
+use Rattle.log_nodes.proofs.Frames.{none-done}
+use Rattle.log_nodes.proofs.Parts.{none-left}
+use Rattle.log_nodes.proofs.Walking.{back-there, mark-within}
+use Rattle.open_splits.specs.declared.splits.OpenSplit.{OpenSplit}
+use Rattle.open_splits.specs.declared.way.Met.TheVariants.{End, Split}
+use Rattle.open_splits.specs.declared.way.Way.TheVariants.{Down, Up}
+use Rattle.open_splits.specs.laws.Behind.{HasGoneOn, HasMet}
+use Rattle.open_splits.specs.laws.Opened.{StandsIn}
+use Rattle.open_splits.proofs.Standing.{at-some}
+use Rattle.open_splits.proofs.Steps.{IsAt, gone-smaller, met-smaller}
 use Rattle.log_parts.specs.laws.Copying.{name_of}
-use Rattle.merged_nodes.specs.laws.Looked.{AreReading}
-use Rattle.merge_walk.specs.declared.way.OpenSplit.{OpenSplit}
-use Rattle.merge_walk.specs.declared.way.Way.TheVariants.{Down, Up}
-use Rattle.merge_walk.specs.declared.way.Written.{Written}
-use Rattle.merge_walk.specs.laws.Opened.{AreSame, Begun, Behind, HasWritten, Reached, Stands}
-use Rattle.merge_walk.proofs.KeptLogs.{same-apart}
-use Rattle.merge_walk.proofs.Remaining.{close-smaller, end-smaller, split-smaller, turn-smaller}
-use Rattle.merge_walk.proofs.Steps.{ended, right-leads, split-closed, split-leads, turns-on, walks-on}
+use Rattle.merge_walk.specs.laws.Opened.{Reached, merging_walk}
+use Rattle.merge_walk.proofs.Steps.{Begun, gone-further, node-written, walk-up, walk_of, whole_of}
 use Rattle.merge_walk.proofs.merging.merge_node.Goals as goal
+
+pub steps-init : goal.steps-init
+steps-init g c =
+    let begun : Begun = record {
+      rows = c.args.merging.rows.now;
+      best = c.args.merging.best;
+      stem = c.args.merging.stem.now;
+      depth = c.args.depth;
+      views = map view_of c.args.area.now;
+      here = record { told = g.F.Shelf.files c.args.files.now; sources = c.args.sources.now.items; writer = c.args.writer.now };
+    } in
+    let at : IsAt begun.rows.program (walk_of begun) begun.views (whole_of begun) c.new-splits.result begun.views begun.here (Down begun.depth) =
+    subst (λ (splits : List (OpenSplit (Option ℤ) Capped)). IsAt begun.rows.program (walk_of begun) begun.views (whole_of begun) splits begun.views begun.here (Down begun.depth)) (sym c.new-splits.ensures) (take-length begun.views, λ later cap is. is) in
+    record { may_read = c.requires.may_read; may_write = c.requires.may_write; apart = c.requires.apart; reading = c.requires.reading; fits = c.requires.fits; named = refl; frame = none-done; at = at }
 
 -- ---- down
 
 pub steps-smaller-in-Some-End : goal.steps-smaller-in-Some-End
 steps-smaller-in-Some-End g c =
-    let is = c.in-Some-End.is ∙ ap Some c.in-Some-End.field-0-is in
-    let written = subst (λ (o : Option Written). IfSome o (HasWritten c.args.merging.rows.now c.args.merging.best (map view_of c.steps.area) (map view_of c.merge_here.new.area) (g.F.Shelf.files c.steps.files) (g.F.Shelf.files c.merge_here.new.files)
-    c.args.merging.stem.now c.in-Down.below c.steps.sources.items c.merge_here.new.sources.items c.steps.writer c.merge_here.new.writer)) is c.in_ok-merge_here-in-Down.ensures.written in
-    end-smaller c.in-Down.below c.steps.splits c.steps.way c.in-Some-End.cap c.in-Down.is written.0
+    let rows = c.args.merging.rows.now in
+    let walk = merging_walk rows c.args.merging.best c.args.merging.stem.now (name_of c.steps.writer) in
+    let here : Reached = record { told = g.F.Shelf.files c.steps.files; sources = c.steps.sources.items; writer = c.steps.writer } in
+    let later : Reached = record { told = g.F.Shelf.files c.merge_here.new.files; sources = c.merge_here.new.sources.items; writer = c.merge_here.new.writer } in
+    let views = map view_of c.steps.area in
+    let wide = map view_of c.merge_here.new.area in
+    let met = at-some (HasMet rows.program walk 36865 c.in-Down.below c.in-Down.below views wide here later) (c.in-Some-End.is ∙ ap Some c.in-Some-End.field-0-is) c.in_ok-merge_here-in-Down.ensures.written in
+    met-smaller rows.program walk views wide here later 36865 (λ (depth : ℕ). depth) c.in-Down.below c.steps.splits c.steps.splits (End c.in-Some-End.cap) c.steps.way (Up c.in-Some-End.cap) (λ split left. refl) c.in-Down.is met (refl, refl)
 
 pub steps-preserved-in-Some-End : goal.steps-preserved-in-Some-End
 steps-preserved-in-Some-End g c =
-    let begun : Begun = record {
-      rows = c.args.merging.rows.now;
-      best = c.args.merging.best;
-      stem = c.args.merging.stem.now;
-      depth = c.args.depth;
-      views = map view_of c.args.area.now;
-      here = record { told = g.F.Shelf.files c.args.files.now; sources = c.args.sources.now.items; writer = c.args.writer.now };
-    } in
-    let views = map view_of c.steps.area in
-    let here : Reached = record { told = g.F.Shelf.files c.steps.files; sources = c.steps.sources.items; writer = c.steps.writer } in
-    let wide = map view_of c.merge_here.new.area in
-    let later : Reached = record { told = g.F.Shelf.files c.merge_here.new.files; sources = c.merge_here.new.sources.items; writer = c.merge_here.new.writer } in
     let said = c.in_ok-merge_here-in-Down.ensures in
     let is = c.in-Some-End.is ∙ ap Some c.in-Some-End.field-0-is in
-    let same = subst (λ (o : Option Written). IfSome o (λ _. AreSame here.sources later.sources)) is said.same in
-    let reading = subst (λ (o : Option Written). IfSome o (λ _. AreReading later.told begun.stem later.sources)) is said.reading in
-    let fits = subst (λ (o : Option Written). IfSome o (λ _. Fits begun.rows.program (seen c.merge_here.new.area))) is said.fits in
-    let written = subst (λ (o : Option Written). IfSome o (HasWritten begun.rows begun.best views wide here.told later.told begun.stem c.in-Down.below here.sources later.sources here.writer later.writer)) is said.written in
-    let others = subst (λ (name : List ℕ). OthersStay name here.told later.told) c.steps.invariant.named said.frame.others in
-    let stands = subst (Stands begun c.steps.splits views here) c.in-Down.is c.steps.invariant.stands in
-    walks-on g.F.Shelf begun c.args.files.now c.steps.files c.merge_here.new.files views wide here.sources later.sources here.writer later.writer c.steps.splits c.steps.splits c.steps.way (Up c.in-Some-End.cap) c.steps.invariant same said.frame said.named reading fits
-    (ended begun c.in-Down.below views wide here later c.steps.splits c.in-Some-End.cap others stands written)
+    node-written c.in-Down.below (End c.in-Some-End.cap) c.steps.invariant c.in-Down.is (at-some _ is said.same) said.frame said.named (at-some _ is said.reading) (at-some _ is said.fits) (at-some _ is said.written) (refl, refl)
 
 pub steps-smaller-in-Some-Split : goal.steps-smaller-in-Some-Split
 steps-smaller-in-Some-Split g c =
-    let is = c.in-Some-Split.is ∙ ap Some c.in-Some-Split.field-0-is in
-    let written = subst (λ (o : Option Written). IfSome o (HasWritten c.args.merging.rows.now c.args.merging.best (map view_of c.steps.area) (map view_of c.merge_here.new.area) (g.F.Shelf.files c.steps.files) (g.F.Shelf.files c.merge_here.new.files)
-    c.args.merging.stem.now c.in-Down.below c.steps.sources.items c.merge_here.new.sources.items c.steps.writer c.merge_here.new.writer)) is c.in_ok-merge_here-in-Down.ensures.written in
-    split-smaller c.in-Down.below c.in-Some-Split.split c.steps.splits c.push.new.self c.steps.way c.in-Down.is written.few written.deep written.none c.in_ok-push-in-Some-Split.ensures.ok
+    let rows = c.args.merging.rows.now in
+    let walk = merging_walk rows c.args.merging.best c.args.merging.stem.now (name_of c.steps.writer) in
+    let here : Reached = record { told = g.F.Shelf.files c.steps.files; sources = c.steps.sources.items; writer = c.steps.writer } in
+    let later : Reached = record { told = g.F.Shelf.files c.merge_here.new.files; sources = c.merge_here.new.sources.items; writer = c.merge_here.new.writer } in
+    let views = map view_of c.steps.area in
+    let wide = map view_of c.merge_here.new.area in
+    let met = at-some (HasMet rows.program walk 36865 c.in-Down.below c.in-Down.below views wide here later) (c.in-Some-Split.is ∙ ap Some c.in-Some-Split.field-0-is) c.in_ok-merge_here-in-Down.ensures.written in
+    met-smaller rows.program walk views wide here later 36865 (λ (depth : ℕ). depth) c.in-Down.below c.steps.splits c.push.new.self (Split c.in-Some-Split.split) c.steps.way (Down c.in-Some-Split.split.below) (λ split left. refl) c.in-Down.is met (c.in_ok-push-in-Some-Split.ensures.ok, refl)
 
 pub steps-preserved-in-Some-Split : goal.steps-preserved-in-Some-Split
 steps-preserved-in-Some-Split g c =
-    let begun : Begun = record {
-      rows = c.args.merging.rows.now;
-      best = c.args.merging.best;
-      stem = c.args.merging.stem.now;
-      depth = c.args.depth;
-      views = map view_of c.args.area.now;
-      here = record { told = g.F.Shelf.files c.args.files.now; sources = c.args.sources.now.items; writer = c.args.writer.now };
-    } in
-    let views = map view_of c.steps.area in
-    let here : Reached = record { told = g.F.Shelf.files c.steps.files; sources = c.steps.sources.items; writer = c.steps.writer } in
-    let wide = map view_of c.merge_here.new.area in
-    let later : Reached = record { told = g.F.Shelf.files c.merge_here.new.files; sources = c.merge_here.new.sources.items; writer = c.merge_here.new.writer } in
     let said = c.in_ok-merge_here-in-Down.ensures in
     let is = c.in-Some-Split.is ∙ ap Some c.in-Some-Split.field-0-is in
-    let same = subst (λ (o : Option Written). IfSome o (λ _. AreSame here.sources later.sources)) is said.same in
-    let reading = subst (λ (o : Option Written). IfSome o (λ _. AreReading later.told begun.stem later.sources)) is said.reading in
-    let fits = subst (λ (o : Option Written). IfSome o (λ _. Fits begun.rows.program (seen c.merge_here.new.area))) is said.fits in
-    let written = subst (λ (o : Option Written). IfSome o (HasWritten begun.rows begun.best views wide here.told later.told begun.stem c.in-Down.below here.sources later.sources here.writer later.writer)) is said.written in
-    let others = subst (λ (name : List ℕ). OthersStay name here.told later.told) c.steps.invariant.named said.frame.others in
-    let stands = subst (Stands begun c.steps.splits views here) c.in-Down.is c.steps.invariant.stands in
-    let apart = same-apart (name_of here.writer) (name_of begun.here.writer) begun.stem here.sources later.sources (sym c.steps.invariant.named) same c.steps.invariant.apart in
-    walks-on g.F.Shelf begun c.args.files.now c.steps.files c.merge_here.new.files views wide here.sources later.sources here.writer later.writer c.steps.splits c.push.new.self c.steps.way (Down (c.in-Down.below + 1)) c.steps.invariant same said.frame said.named reading fits
-    (subst (λ (all : List OpenSplit). Stands begun all wide later (Down (c.in-Down.below + 1))) (sym c.in_ok-push-in-Some-Split.ensures.ok) (split-leads begun c.in-Down.below views wide here later c.steps.splits c.in-Some-Split.split others apart stands written))
+    node-written c.in-Down.below (Split c.in-Some-Split.split) c.steps.invariant c.in-Down.is (at-some _ is said.same) said.frame said.named (at-some _ is said.reading) (at-some _ is said.fits) (at-some _ is said.written) (c.in_ok-push-in-Some-Split.ensures.ok, refl)
 
 -- ---- up
 
-pub steps-smaller-in-Some-left : goal.steps-smaller-in-Some-left
-steps-smaller-in-Some-left g c = close-smaller c.in-Some.split c.take_top.new.self c.steps.splits c.steps.way c.in-Up.cap c.in-Some-left.left c.close.result c.in-Up.is c.in-Some.ensures c.in-Some-left.is
-
-pub steps-preserved-in-Some-left : goal.steps-preserved-in-Some-left
-steps-preserved-in-Some-left g c =
-    let begun : Begun = record {
-      rows = c.args.merging.rows.now;
-      best = c.args.merging.best;
-      stem = c.args.merging.stem.now;
-      depth = c.args.depth;
-      views = map view_of c.args.area.now;
-      here = record { told = g.F.Shelf.files c.args.files.now; sources = c.args.sources.now.items; writer = c.args.writer.now };
-    } in
-    let views = map view_of c.steps.area in
-    let here : Reached = record { told = g.F.Shelf.files c.steps.files; sources = c.steps.sources.items; writer = c.steps.writer } in
-    let wide = map view_of c.close.new.area in
-    let rest = c.take_top.new.self in
-    let behind = subst (λ (all : List OpenSplit). Behind begun all views here c.in-Up.cap) c.in-Some.ensures (subst (Stands begun c.steps.splits views here) c.in-Up.is c.steps.invariant.stands) in
-    turns-on g.F.Shelf begun c.args.files.now c.steps.files views wide here.sources here.writer c.steps.splits rest c.steps.way (Up c.close.result) c.steps.invariant c.close.ensures.fits
-    (subst (λ (cap : Capped). Behind begun rest wide here cap) (sym c.close.ensures.cap) (split-closed begun c.in-Some.split rest views wide here c.in-Some-left.left c.in-Up.cap c.in-Some-left.is behind c.close.ensures.views))
+pub go_on-requires-clause-within : goal.go_on-requires-clause-within
+go_on-requires-clause-within g c =
+    (subst (λ (splits : List (OpenSplit (Option ℤ) Capped)). StandsIn (map view_of c.args.area.now) splits (map view_of c.steps.area)) c.in-Some.ensures c.steps.invariant.at.0).0
 
 pub steps-smaller : goal.steps-smaller
 steps-smaller g c =
-    turn-smaller c.in-Some.split c.turned.result c.take_top.new.self c.steps.splits c.push-in-None-left.new.self c.steps.way c.in-Up.cap c.in-Up.cap c.in-Up.is c.in-Some.ensures c.in-None-left.is c.in_ok-push-in-None-left.ensures.ok
-    (ap (λ (split : OpenSplit). split.left) c.turned.ensures)
+    let rows = c.args.merging.rows.now in
+    let best = c.args.merging.best in
+    let stem = c.args.merging.stem.now in
+    let name = name_of c.args.writer.now in
+    let views = map view_of c.steps.area in
+    let wide = map view_of c.go_on.new.area in
+    let split = c.in-Some.split in
+    let rest = c.take_top.new.self in
+    let further = c.go_on.new.splits in
+    let gone = at-some (HasGoneOn rows.program (merging_walk rows best stem name) split c.in-Up.cap rest further views wide) c.in-Some-2.is (c.in_ok-next-in-Up.ensures.gone best stem name) in
+    gone-smaller rows.program (merging_walk rows best stem name) views wide 36865 (λ (depth : ℕ). depth) split c.in-Up.cap rest c.steps.splits further c.steps.way c.in-Some-2.next (λ split left. refl) c.in-Up.is c.in-Some.ensures gone
 
 pub steps-preserved : goal.steps-preserved
 steps-preserved g c =
-    let begun : Begun = record {
-      rows = c.args.merging.rows.now;
-      best = c.args.merging.best;
-      stem = c.args.merging.stem.now;
-      depth = c.args.depth;
-      views = map view_of c.args.area.now;
-      here = record { told = g.F.Shelf.files c.args.files.now; sources = c.args.sources.now.items; writer = c.args.writer.now };
-    } in
+    let rows = c.args.merging.rows.now in
+    let best = c.args.merging.best in
+    let stem = c.args.merging.stem.now in
+    let name = name_of c.args.writer.now in
+    let gone = at-some (HasGoneOn rows.program (merging_walk rows best stem name) c.in-Some.split c.in-Up.cap c.take_top.new.self c.go_on.new.splits (map view_of c.steps.area) (map view_of c.go_on.new.area)) c.in-Some-2.is (c.in_ok-next-in-Up.ensures.gone best stem name) in
+    gone-further c.in-Some.split c.take_top.new.self c.go_on.new.splits c.in-Up.cap c.in-Some-2.next c.steps.invariant c.in-Up.is c.in-Some.ensures c.in_ok-next-in-Up.ensures.fits gone
+
+-- ---- the end of the walk
+
+pub back-requires-clause-within : goal.back-requires-clause-within
+back-requires-clause-within g c =
+    let begun = map view_of c.args.area.now in
     let views = map view_of c.steps.area in
-    let here : Reached = record { told = g.F.Shelf.files c.steps.files; sources = c.steps.sources.items; writer = c.steps.writer } in
-    let wide = map view_of c.turn.new.area in
-    let rest = c.take_top.new.self in
-    let split = c.in-Some.split in
-    let behind = subst (λ (all : List OpenSplit). Behind begun all views here c.in-Up.cap) c.in-Some.ensures (subst (Stands begun c.steps.splits views here) c.in-Up.is c.steps.invariant.stands) in
-    let pushed = c.in_ok-push-in-None-left.ensures.ok ∙ ap (λ (one : OpenSplit). one ∷ rest) c.turned.ensures in
-    turns-on g.F.Shelf begun c.args.files.now c.steps.files views wide here.sources here.writer c.steps.splits c.push-in-None-left.new.self c.steps.way (Down (split.depth + 1)) c.steps.invariant c.turn.ensures.fits
-    (subst (λ (all : List OpenSplit). Stands begun all wide here (Down (split.depth + 1))) (sym pushed) (right-leads begun split rest views wide here c.in-Up.cap c.turn.result c.in-None-left.is behind c.if-not-turn.false c.turn.ensures.moves))
+    let none = none-left c.take_top.result (λ top. c.steps.splits ≡ top ∷ c.take_top.new.self) c.take_top.ensures c.in_default.not-Some in
+    mark-within begun views views c.mark-mark.result c.mark-mark.ensures (subst (λ (splits : List (OpenSplit (Option ℤ) Capped)). StandsIn begun splits views) none.0 c.steps.invariant.at.0) refl
+
+pub returns-in_default-clause-merged : goal.returns-in_default-clause-merged
+returns-in_default-clause-merged g c =
+    let none = none-left c.take_top.result (λ top. c.steps.splits ≡ top ∷ c.take_top.new.self) c.take_top.ensures c.in_default.not-Some in
+    (walk-up c.in-Up.cap [] c.steps.invariant c.in-Up.is none.0).1.1
+
+pub returns-in_default-clause-as_before : goal.returns-in_default-clause-as_before
+returns-in_default-clause-as_before g c =
+    let begun = map view_of c.args.area.now in
+    let views = map view_of c.steps.area in
+    let none = none-left c.take_top.result (λ top. c.steps.splits ≡ top ∷ c.take_top.new.self) c.take_top.ensures c.in_default.not-Some in
+    back-there begun views views (map view_of c.back.new.area) c.mark-mark.result c.mark-mark.ensures (subst (λ (splits : List (OpenSplit (Option ℤ) Capped)). StandsIn begun splits views) none.0 c.steps.invariant.at.0) refl c.back.ensures.views

@@ -1,7 +1,7 @@
 -- The walk stands where what is left to do writes the whole proof; all logs may be read on, and the new one written.
-use Rattle.std.proofs.Common.{◌+◌, map}
+use Rattle.std.proofs.Common.{◌+◌, ℕ, map}
 use Rattle.row_relax.specs.View.{view_of}
-use Rattle.merge_walk.proofs.Remaining.{open_steps, way_steps}
+use Rattle.open_splits.proofs.Remaining.{open_steps, way_steps}
 use Rattle.merge_walk.proofs.Steps.{IsWalking}
 use Rattle.merge_walk.proofs.merging.merge_node.Given as goal
 
@@ -18,4 +18,4 @@ invariant-steps g l =
     }) l.initial.files l.files (map view_of l.area) l.sources.items l.writer l.splits l.way
 
 abbrev pub decreases-steps : goal.decreases-steps
-decreases-steps g l = way_steps l.way + open_steps l.splits
+decreases-steps g l = way_steps 36865 (λ (depth : ℕ). depth) l.way + open_steps 36865 l.splits

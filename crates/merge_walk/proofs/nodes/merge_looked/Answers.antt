@@ -1,20 +1,22 @@
 -- A node is merged of those that were looked at: an end that closes its box, else a split, else an end.
-use Rattle.std.proofs.Common.{IfSome, map, Option, refl, sym, subst}
-use Rattle.stn_edge.specs.Files.{FileMap}
+use Rattle.std.proofs.Common.{IfSome, map, Option, ℤ, refl, sym, subst}
+use Rattle.std.proofs.Math.Seq.{take-length}
+use Rattle.stn_edge.specs.Files.{FileMap, OthersStay}
+use Rattle.proof_tree.specs.declared.capped.Capped.{Capped}
 use Rattle.row_relax.specs.View.{Fits, view_of}
 use Rattle.log_nodes.specs.laws.Nodes.{node_items}
 use Rattle.log_nodes.specs.laws.Seen.{seen}
+use Rattle.open_splits.specs.declared.splits.OpenSplit.{OpenSplit}
+use Rattle.open_splits.specs.declared.way.Met.TheVariants.{End}
+use Rattle.open_splits.proofs.Steps.{split-then}
 use Rattle.log_parts.specs.laws.Copying.{name_of}
 use Rattle.merged_nodes.specs.laws.Looked.{AreReading}
 use Rattle.merged_nodes.specs.laws.Puts.{PutsItems}
 use Rattle.log_parts.proofs.Frames.{also-reads, also-writes, both-then}
-use Rattle.merge_walk.specs.declared.way.OpenSplit.{OpenSplit}
-use Rattle.merge_walk.specs.declared.way.Written.TheVariants.{End}
-use Rattle.merge_walk.specs.laws.Opened.{AreSame, HasOpenedSplit, HasWritten}
-use Rattle.merge_walk.specs.laws.Walked.{HasMerged, HasMergedSplit}
+use Rattle.merge_walk.specs.laws.Opened.{AreSame, HasOpenedSplit, HasWritten, Merges}
+use Rattle.merge_walk.specs.laws.Walked.{HasMergedSplit}
 use Rattle.merge_walk.proofs.KeptLogs.{readings-stay, same-apart, same-none, same-passed}
 use Rattle.merge_walk.proofs.MergedNodes.{closed-merged, end-merged, split-merged}
-use Rattle.merge_walk.proofs.OpenSplits.{opened-then}
 use Rattle.merge_walk.proofs.SplitNodes.{answer-always, end-answer, none-there}
 use Rattle.merge_walk.proofs.nodes.merge_looked.Goals as goal
 
@@ -33,7 +35,7 @@ returns-in-Some-end-clause-written g c = λ before has.
     let later = c.write_end.new.writer in
     let end = c.in-Some-end.end in
     end-answer c.write_end.result (End end.cap) (PutsItems writer told later new' (node_items end.node)) (HasWritten rows best views views told new' stem c.args.depth before after writer later) c.write_end.ensures.put
-    (λ put. (c.requires.can.depth, refl, end-merged rows best (seen c.args.area.now) told new' stem c.args.depth before after writer later c.args.looked end has (none-there c.args.looked.split c.in_default.not-Some) c.in-Some-end.is put))
+    (λ put. (take-length views, (c.write_end.ensures.frame.others, end-merged rows best (seen c.args.area.now) told new' stem c.args.depth before after writer later c.args.looked end has (none-there c.args.looked.split c.in_default.not-Some) c.in-Some-end.is put)))
 
 pub returns-in-Some-end-clause-same : goal.returns-in-Some-end-clause-same
 returns-in-Some-end-clause-same g c = answer-always c.write_end.result (AreSame c.args.sources.now.items c.args.sources.now.items) (same-none c.args.sources.now.items)
@@ -73,10 +75,12 @@ returns-then-branch-clause-written g c = λ before has.
     let passed = c.in_ok-pass_below-in-Some-closing.ensures.passed c.if-branch.true in
     end-answer c.write_end-then-branch.result (End end.cap) (PutsItems writer now later new' (node_items end.node)) (HasWritten rows best views views told new' stem depth before after writer later) c.write_end-then-branch.ensures.put
     (λ put. (
-      c.requires.can.depth,
-      refl,
-      closed-merged rows best (seen c.args.area.now) told new' stem depth before middle after writer later c.args.looked end c.in-Some.split has c.in-Some.is kept.0 kept.1 passed
-          (subst (λ (files : Option FileMap). PutsItems writer files later new' (node_items end.node)) c.in_ok-pass_below-in-Some-closing.ensures.frame.same put),
+      take-length views,
+      (
+        subst (λ (files : Option FileMap). OthersStay (name_of writer) files new') c.in_ok-pass_below-in-Some-closing.ensures.frame.same c.write_end-then-branch.ensures.frame.others,
+        closed-merged rows best (seen c.args.area.now) told new' stem depth before middle after writer later c.args.looked end c.in-Some.split has c.in-Some.is kept.0 kept.1 passed
+            (subst (λ (files : Option FileMap). PutsItems writer files later new' (node_items end.node)) c.in_ok-pass_below-in-Some-closing.ensures.frame.same put),
+      ),
     ))
 
 pub returns-then-branch-clause-same : goal.returns-then-branch-clause-same
@@ -126,11 +130,10 @@ returns-in-Some-2-clause-written g c = λ before has.
     let writer = c.args.writer.now in
     let later = c.open_split.new.writer in
     let node = c.in-Some.split in
-    let opened = subst (λ (o : Option OpenSplit). IfSome o (HasOpenedSplit rows best node views narrow told new' stem depth middle writer later)) c.in-Some-2.is c.in_ok-split-in-None-closing.ensures.opened in
-    opened-then rows best stem depth views narrow (record { told = new'; sources = middle; writer = later }) c.in-Some-2.split
-    (λ last cap. HasMergedSplit rows best view node told last.told stem depth middle last.sources writer last.writer cap)
-    (λ last cap. HasMerged rows best view told last.told stem depth before last.sources writer last.writer cap)
-    (λ last cap parts. split-merged rows best view told last.told stem depth before middle last.sources writer last.writer c.args.looked node cap has c.in-Some.is c.in-None-closing.ensures parts) opened
+    let opened = subst (λ (o : Option (OpenSplit (Option ℤ) Capped)). IfSome o (HasOpenedSplit rows best node views narrow told new' stem depth middle writer later)) c.in-Some-2.is c.in_ok-split-in-None-closing.ensures.opened in
+    split-then (λ last cap. OthersStay (name_of writer) told last.told × HasMergedSplit rows best view node told last.told stem depth middle last.sources writer last.writer cap)
+    (Merges rows best stem (name_of writer) depth view (record { told = told; sources = before; writer = writer }))
+    (λ last cap parts. (parts.0, split-merged rows best view told last.told stem depth before middle last.sources writer last.writer c.args.looked node cap has c.in-Some.is c.in-None-closing.ensures parts.1)) opened
 
 pub returns-in-Some-2-clause-reading : goal.returns-in-Some-2-clause-reading
 returns-in-Some-2-clause-reading g c =

@@ -1,20 +1,24 @@
 -- A node that splits is written, and its area is narrowed to its left part.
-use Rattle.std.proofs.Common.{◌≡◌, ◌∙◌, ℤ, List, map, Option, Some, refl, sym, ap, subst}
-use Rattle.proof_tree.specs.Cap.{floor_cap, greater}
+use Rattle.std.proofs.Common.{◌≡◌, ◌∙◌, List, map, Some, sym, subst}
 use Rattle.proof_tree.specs.Tree.{after_cuts}
 use Rattle.range_prop.specs.declared.row_cut.RowCut.{RowCut}
+use Rattle.row_relax.specs.declared.pick.RowPick.{RowPick}
+use Rattle.row_relax.specs.Choices.{steps_of}
 use Rattle.row_relax.specs.Steps.{row_steps}
 use Rattle.row_relax.specs.View.{view_of}
+use Rattle.log_nodes.specs.declared.node.Ending.TheVariants.{Split}
 use Rattle.log_nodes.specs.laws.Seen.{seen}
-use Rattle.log_nodes.proofs.Walking.{keeps-on, moved-there}
+use Rattle.log_nodes.proofs.Walking.{keeps-on}
+use Rattle.open_splits.specs.laws.Opened.{HasOpened}
+use Rattle.open_splits.proofs.Standing.{opened-so}
 use Rattle.log_parts.specs.laws.Copying.{name_of}
 use Rattle.store_frames.specs.Frames.{WritesOne}
 use Rattle.log_parts.proofs.Frames.{writes-then}
 use Rattle.merged_nodes.proofs.Others.{others-then}
 use Rattle.merged_nodes.proofs.Puts.{node-put}
-use Rattle.merge_walk.specs.laws.Walked.{HasMergedSplit}
-use Rattle.merge_walk.proofs.MergedNodes.{node-merged}
+use Rattle.merge_walk.specs.laws.Opened.{HasOpenedSplit}
 use Rattle.merge_walk.proofs.SplitNodes.{same-cuts, split-end}
+use Rattle.merge_walk.proofs.Steps.{split-leads}
 use Rattle.merge_walk.proofs.nodes.open_split.Goals as goal
 
 pub returns-in_default-clause-frame : goal.returns-in_default-clause-frame
@@ -51,17 +55,18 @@ returns-clause-opened g c =
     let there = subst (λ (cuts : List RowCut). after_cuts (row_steps rows.program) view cuts ≡ Some (seen cut)) c.as_slice.ensures (c.cut_down.ensures.cuts c.if-not-cut_down.false) in
     let led = same-cuts rows view node.cuts ∙ there in
     let is = split-end node.end pick cert c.item_of-item.result c.item_of-item.ensures c.in-Split.is in
-    let left = moved-there ((row_steps rows.program).left (seen rest) pick) (map view_of rest) (map view_of c.left.new.area) c.left.result c.if-not-left.false c.left.ensures.moves in
-    record {
-      divided = map view_of rest;
-      before = c.mark-before.ensures;
-      keeps = keeps-on (map view_of c.args.area.now) (map view_of cut) (map view_of rest) c.cut_down.ensures.keeps c.trim-floor.ensures.keeps;
-      mark = c.mark-mark.ensures;
-      left = left.0;
-      below = record { keeps = left.1; fits = c.left.ensures.fits };
-      deep = refl;
-      none = refl;
-      few = c.requires.depth;
-      then_ = λ last cap parts. subst (HasMergedSplit rows best view node told last.told stem depth sources last.sources writer last.writer) {y = greater (floor_cap c.trim-floor.result) cap} (ap (λ (floor : Option ℤ). greater (floor_cap floor) cap) (sym c.trim-floor.ensures.floor))
-          (node-merged rows best view (seen cut) (seen rest) node pick cert told now last.told stem (name_of writer) depth sources last.sources writer between last.writer cap is led c.trim-floor.ensures.trimmed put others c.requires.apart parts);
-    }
+    let name = name_of writer in
+    let views = map view_of c.args.area.now in
+    let narrow = map view_of c.open_split.new.area in
+    opened-so c.open_split.result (HasOpened rows.program depth (map view_of rest) narrow) (λ split. split.pick ≡ pick) (λ split. split.kept ≡ c.trim-floor.result) (HasOpenedSplit rows best node views narrow told now stem depth sources writer between)
+    c.open_split.ensures.opened c.open_split.ensures.pick c.open_split.ensures.kept
+    (λ split opened picked kept. record {
+      opened = record {
+        divided = map view_of rest;
+        keeps = keeps-on views (map view_of cut) (map view_of rest) c.cut_down.ensures.keeps c.trim-floor.ensures.keeps;
+        opened = opened;
+        few = c.requires.depth;
+      };
+      then_ = split-leads rows best stem name depth view (seen cut) (map view_of rest) narrow node cert told now sources writer between split opened (subst (λ (p : RowPick). node.end ≡ Split p cert) (sym picked) is) led
+          (subst (λ (p : RowPick). seen rest ≡ (steps_of rows).trim (seen cut) p cert) (sym picked) c.trim-floor.ensures.trimmed) (subst (λ (p : RowPick). split.kept ≡ (steps_of rows).floor (seen cut) p cert) (sym picked) (kept ∙ c.trim-floor.ensures.floor)) put others c.requires.apart;
+    })

@@ -1,8 +1,7 @@
 -- The log can be walked on, files are only read, and the area stands in the open splits.
 use Rattle.std.proofs.Common.{map}
 use Rattle.row_relax.specs.View.{view_of}
-use Rattle.resumed_log.proofs.OpenSplits.{IsGathering}
-use Rattle.resumed_log.proofs.Remaining.{nodes_from}
+use Rattle.resumed_log.proofs.OpenSplits.{IsGathering, nodes_from}
 use Rattle.resumed_log.proofs.gathering.gather_node.Given as goal
 
 abbrev pub invariant-nodes : goal.invariant-nodes

@@ -1,5 +1,5 @@
 -- The new log is cleared, or could not be.
-use Rattle.log_parts.proofs.Writes.{clear_stays, cleared_stays}
+use Rattle.log_nodes.proofs.Stays.{clear_stays, cleared_stays}
 use Rattle.resumed_log.proofs.new_log.begin.Goals as goal
 
 pub returns-in-Ok-clause-frame : goal.returns-in-Ok-clause-frame

@@ -2,8 +2,7 @@
 use Rattle.std.proofs.Common.{map}
 use Rattle.row_relax.specs.View.{view_of}
 use Rattle.resumed_log.specs.laws.Beside.{out_name}
-use Rattle.resumed_log.proofs.OpenSplits.{IsWriting}
-use Rattle.resumed_log.proofs.Remaining.{nodes_from}
+use Rattle.resumed_log.proofs.OpenSplits.{IsWriting, nodes_from}
 use Rattle.resumed_log.proofs.writing.write_node.Given as goal
 
 abbrev pub invariant-nodes : goal.invariant-nodes

@@ -1,8 +1,0 @@
--- Before the first box nothing was put.
-use Rattle.branch_tree.proofs.Stopping.{at_err}
-use Rattle.branch_tree.proofs.Whole.{root-before}
-use Rattle.branch_tree.proofs.searching.search_to.Goals as goal
-
-pub returns-in_err-new-clause-err : goal.returns-in_err-new-clause-err
-returns-in_err-new-clause-err g c =
-    at_err _ _ (root-before g.T.NodeTaker.took g.T.NodeTaker.broke c.args.sought.now.rules.most c.args.sought.now.rows.now c.args.sought.now.rules.floors c.args.taker.now c.args.out.now c.requires.can.searchable.program (g.met.T.NodeTaker.took_none c.args.taker.now c.args.out.now))
