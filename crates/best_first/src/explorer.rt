@@ -40,7 +40,13 @@ struct Explorer<'a> {
     aims: Aims,
     // Where the bounds of open ends begin that an earlier search has left.
     starts: Starts,
+    // How many boxes were bounded, and how many bounds were made anew.
+    bounded: u32,
+    anew: u32,
 }
+
+// One bound in so many is made anew, at most.
+const SELDOM: u32 = 32;
 
 // How many boxes are explored at most for each that may be counted.
 const MOST_LOOKS: u32 = 4;
@@ -112,6 +118,8 @@ impl<'a> Explorer<'a> {
             cap: i128::MAX,
             aims: Aims::after(ends),
             starts,
+            bounded: 0,
+            anew: 0,
         })
     }
 
@@ -278,6 +286,10 @@ impl<'a> Explorer<'a> {
         let mut basis = self.tree.start_of(self.alloc, program, number)?;
         self.starts.begin(number, &mut basis);
         let mut advice = self.advised(program, area, &mut basis, point.as_mut_slice())?;
+        if self.is_idle(program, area, number, &advice) {
+            basis.clear();
+            advice = self.advised(program, area, &mut basis, point.as_mut_slice())?;
+        }
         self.starts.note(number, &basis);
         let has_plan = self.best.worth.is_some();
         self.hint(program, area, point.as_mut_slice());
@@ -286,6 +298,23 @@ impl<'a> Explorer<'a> {
             advice = self.advised(program, area, &mut basis, point.as_mut_slice())?;
         }
         self.settle(program, area, number, advice, basis)
+    }
+
+    // Whether the bound of a box that stays open is to be made anew, from no basis: where it says no more than that of the split above
+    // it. It may have ended where its basis has gone bad, and the boxes below would begin there, too.
+    fn is_idle(&mut self, program: &Program, area: &Area, number: u32, advice: &Advice) -> bool
+        requires slots { length (present area.now) ≡ length program.now.root }
+    {
+        self.bounded = self.bounded.saturating_add(1);
+        if advice.slot.is_none() || self.anew >= self.bounded / SELDOM {
+            return false;
+        }
+        let held = self.tree.cap_above(program, area, number);
+        let is_idle = cap_of(program, area, &advice.cert) >= held;
+        if is_idle {
+            self.anew = self.anew.saturating_add(1);
+        }
+        is_idle
     }
 
     // What the guide advises on a box whose bound begins from a basis.
