@@ -10,7 +10,7 @@ use Rattle.stn_model.specs.declared.answer.Answer.{Answer}
 use Rattle.stn_model.specs.declared.answer.Answer.TheVariants.{Optimal, Infeasible, BudgetSpent}
 use Rattle.command_replies.specs.Answers.{IsUnwritten}
 use Rattle.command_replies.proofs.AnswerLemmas.{written}
-use Rattle.command_words.specs.declared.command.PlanUse.{PlanUse}
+use Rattle.command_words.specs.declared.uses.PlanUse.{PlanUse}
 use Rattle.answer_texts.specs.Planning.{status_of}
 use Rattle.answer_texts.specs.Simulation.{Simulated, verdict_status}
 

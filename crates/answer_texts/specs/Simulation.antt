@@ -13,8 +13,8 @@ use Rattle.plan_picture.specs.Picture.{picture_text}
 use Rattle.plan_tables.specs.Tables.{table_text}
 use Rattle.answer_texts.specs.Lines.{amount_line}
 use Rattle.answer_texts.specs.Violations.{violations_text}
-use Rattle.command_words.specs.declared.command.PlanUse.{PlanUse}
-use Rattle.command_words.specs.declared.command.PlanUse.TheVariants.{Simulate, Report, Picture, Table, Violations}
+use Rattle.command_words.specs.declared.uses.PlanUse.{PlanUse}
+use Rattle.command_words.specs.declared.uses.PlanUse.TheVariants.{Simulate, Report, Picture, Table, Violations}
 
 -- a line on a place of a plan, which is counted from 1
 abbrev pub place_line : List ℕ → ℕ → List ℕ

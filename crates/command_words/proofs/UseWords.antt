@@ -4,8 +4,8 @@ use Rattle.std.specs.Prelude.{◌⊎◌, Bool, true, false, codes, Option, Some,
 use Rattle.plan_tables.specs.declared.kind.TableKind.{TableKind}
 use Rattle.plan_tables.specs.declared.kind.TableKind.TheVariants.{Batches, Stocks, Loads, Units, Deliveries}
 use Rattle.command_words.specs.declared.command.Command.{Command}
-use Rattle.command_words.specs.declared.command.PlanUse.{PlanUse}
-use Rattle.command_words.specs.declared.command.PlanUse.TheVariants.{Simulate, Report, Picture, Table, Violations}
+use Rattle.command_words.specs.declared.uses.PlanUse.{PlanUse}
+use Rattle.command_words.specs.declared.uses.PlanUse.TheVariants.{Table}
 use Rattle.command_words.specs.Words.{Says, NoPlan, Rolling, Simulating, use_word, last_words, kind_words, meaning}
 
 -- the words that say a use of a plan
@@ -14,11 +14,8 @@ words_of usage plant plan = use_word usage ∷ plant ∷ plan ∷ last_words usa
 
 -- they are three, or the first begins with a t (116)
 use_form : (usage : PlanUse) (plant plan : List ℕ) → (length (words_of usage plant plan) ≡ 3) ⊎ (get_or (get_or (words_of usage plant plan) 0 []) 0 0 ≡ 116)
-use_form Simulate plant plan = inl refl
-use_form Report plant plan = inl refl
-use_form Picture plant plan = inl refl
 use_form (Table kind) plant plan = inr refl
-use_form Violations plant plan = inl refl
+use_form _ plant plan = inl refl
 
 -- so more words of which the first begins with another letter say none
 pub no_use : (words : List (List ℕ)) (usage : PlanUse) (plant plan : List ℕ) → words ≡ words_of usage plant plan → 4 ≤ length words → get_or (get_or words 0 []) 0 0 ≢ 116 → ⊥
@@ -27,15 +24,22 @@ no_use words usage plant plan same long other = elim (use_form usage plant plan)
   | inr t ↦ other (ap (λ (ws : List (List ℕ)). get_or (get_or ws 0 []) 0 0) same ∙ t)
 ]
 
--- the words say a plan's use that is one of these, or a table
-no_plan_use : (words : List (List ℕ)) → ((plant plan : List ℕ) → ¬ Says words (Simulating Simulate plant plan)) → ((plant plan : List ℕ) → ¬ Says words (Simulating Report plant plan))
-    → ((plant plan : List ℕ) → ¬ Says words (Simulating Picture plant plan)) → ((plant plan : List ℕ) → ¬ Says words (Simulating Violations plant plan))
-    → ((kind : TableKind) (plant plan : List ℕ) → ¬ Says words (Simulating (Table kind) plant plan)) → (usage : PlanUse) (plant plan : List ℕ) → ¬ Says words (Simulating usage plant plan)
-no_plan_use words simulate report picture violations table Simulate = simulate
-no_plan_use words simulate report picture violations table Report = report
-no_plan_use words simulate report picture violations table Picture = picture
-no_plan_use words simulate report picture violations table Violations = violations
-no_plan_use words simulate report picture violations table (Table kind) = table kind
+-- a table is named by a word, but for that of the batches
+no_table : (words : List (List ℕ)) → ((usage : PlanUse) (plant plan : List ℕ) → last_words usage ≡ [] → ¬ Says words (Simulating usage plant plan))
+    → ((kind : TableKind) (word plant plan : List ℕ) → kind_words kind ≡ word ∷ [] → ¬ Says words (Simulating (Table kind) plant plan))
+    → (kind : TableKind) (plant plan : List ℕ) → ¬ Says words (Simulating (Table kind) plant plan)
+no_table words bare table Batches plant plan = bare (Table Batches) plant plan refl
+no_table words bare table Stocks plant plan = table Stocks (codes "stocks") plant plan refl
+no_table words bare table Loads plant plan = table Loads (codes "loads") plant plan refl
+no_table words bare table Units plant plan = table Units (codes "units") plant plan refl
+no_table words bare table Deliveries plant plan = table Deliveries (codes "deliveries") plant plan refl
+
+-- a use of a plan that is no table has no word after the files
+no_plan_use : (words : List (List ℕ)) → ((usage : PlanUse) (plant plan : List ℕ) → last_words usage ≡ [] → ¬ Says words (Simulating usage plant plan))
+    → ((kind : TableKind) (word plant plan : List ℕ) → kind_words kind ≡ word ∷ [] → ¬ Says words (Simulating (Table kind) plant plan))
+    → (usage : PlanUse) (plant plan : List ℕ) → ¬ Says words (Simulating usage plant plan)
+no_plan_use words bare table (Table kind) plant plan = no_table words bare table kind plant plan
+no_plan_use words bare table usage plant plan = bare usage plant plan refl
 
 -- a rolling prints the plant or the rest of the plan
 no_rolling : (words : List (List ℕ)) → ((plant plan : List ℕ) (period : ℕ) → ¬ Says words (Rolling plant plan period false)) → ((plant plan : List ℕ) (period : ℕ) → ¬ Says words (Rolling plant plan period true))
@@ -44,26 +48,8 @@ no_rolling words whole part plant plan period false = whole plant plan period
 no_rolling words whole part plant plan period true = part plant plan period
 
 -- the last form of those on a plan
-pub last_plan_form : (words : List (List ℕ)) (command : Option Command) → ((plant plan : List ℕ) → ¬ Says words (Simulating Simulate plant plan)) → ((plant plan : List ℕ) → ¬ Says words (Simulating Report plant plan))
-    → ((plant plan : List ℕ) → ¬ Says words (Simulating Picture plant plan)) → ((plant plan : List ℕ) → ¬ Says words (Simulating Violations plant plan))
-    → ((kind : TableKind) (plant plan : List ℕ) → ¬ Says words (Simulating (Table kind) plant plan)) → ((plant plan : List ℕ) (period : ℕ) → ¬ Says words (Rolling plant plan period false))
+pub last_plan_form : (words : List (List ℕ)) (command : Option Command) → ((usage : PlanUse) (plant plan : List ℕ) → last_words usage ≡ [] → ¬ Says words (Simulating usage plant plan))
+    → ((kind : TableKind) (word plant plan : List ℕ) → kind_words kind ≡ word ∷ [] → ¬ Says words (Simulating (Table kind) plant plan)) → ((plant plan : List ℕ) (period : ℕ) → ¬ Says words (Rolling plant plan period false))
     → MatchOption command ((plant plan : List ℕ) (period : ℕ) → ¬ Says words (Rolling plant plan period true)) (λ c. Says words (meaning c)) → MatchOption command (NoPlan words) (λ c. Says words (meaning c))
-last_plan_form words None simulate report picture violations table roll rest = record { simulating = no_plan_use words simulate report picture violations table; rolling = no_rolling words roll rest }
-last_plan_form words (Some command) simulate report picture violations table roll rest = rest
-
--- no table is named where the batches are not asked for, and no word names another
-no_table : (words : List (List ℕ)) → ((plant plan : List ℕ) → ¬ Says words (Simulating (Table Batches) plant plan))
-    → ((kind : TableKind) (word plant plan : List ℕ) → kind_words kind ≡ word ∷ [] → ¬ Says words (Simulating (Table kind) plant plan))
-    → (kind : TableKind) (plant plan : List ℕ) → ¬ Says words (Simulating (Table kind) plant plan)
-no_table words batches named Batches plant plan = batches plant plan
-no_table words batches named Stocks plant plan = named Stocks (codes "stocks") plant plan refl
-no_table words batches named Loads plant plan = named Loads (codes "loads") plant plan refl
-no_table words batches named Units plant plan = named Units (codes "units") plant plan refl
-no_table words batches named Deliveries plant plan = named Deliveries (codes "deliveries") plant plan refl
-
--- the last form of a table decides
-pub any_table : (words : List (List ℕ)) (command : Option Command) → ((plant plan : List ℕ) → ¬ Says words (Simulating (Table Batches) plant plan))
-    → MatchOption command ((kind : TableKind) (word plant plan : List ℕ) → kind_words kind ≡ word ∷ [] → ¬ Says words (Simulating (Table kind) plant plan)) (λ c. Says words (meaning c))
-    → MatchOption command ((kind : TableKind) (plant plan : List ℕ) → ¬ Says words (Simulating (Table kind) plant plan)) (λ c. Says words (meaning c))
-any_table words None batches named = no_table words batches named
-any_table words (Some command) batches named = named
+last_plan_form words None bare table roll rest = record { simulating = no_plan_use words bare table; rolling = no_rolling words roll rest }
+last_plan_form words (Some command) bare table roll rest = rest

@@ -5,7 +5,9 @@ use lib.Pointwise.{pointwise}
 use Rattle.std.proofs.Common.{◌≡◌, true, false, ◌∙◌, ap, ℕ, ℤ, ◌<◌, ◌≤◌, List, [], ◌∷◌, length, get_or, refl, arith, Bor}
 use Rattle.std.specs.Prelude.{Option, Some, None, MatchOption}
 use Rattle.command_words.specs.declared.command.Command.{Command}
-use Rattle.command_words.specs.Words.{texts, Request, Says, HasNoForm, Solving, Logging, Simulating, Checking, Telling, Numbering, Upgrading, Showing, Replanning, ReplanLogging, CheckingReplan, Rolling, Improving, Estimating, Seeking, Tracing, Auditing, Parting, PartSolving, Joining, Resuming, Merging, NoPlant, NoPlan, NoReplanning, NoLog, NoListing, NoHorizons, NoParts, meaning, NoConflicts, Conflicting, ConflictLogging, CheckingConflict}
+use Rattle.command_words.specs.declared.uses.PlantUse.{PlantUse}
+use Rattle.command_words.specs.declared.uses.LogUse.{LogUse}
+use Rattle.command_words.specs.Words.{texts, Says, HasNoForm, Solving, Logging, Printing, Simulating, Telling, Showing, Replanning, ReplanLogging, CheckingReplan, Rolling, Improving, Estimating, Seeking, Tracing, Auditing, Parting, PartSolving, Joining, Resuming, Merging, NoPlant, NoPlan, NoReplanning, NoLog, NoHorizons, NoParts, meaning, NoConflicts, Conflicting, ConflictLogging, CheckingConflict}
 
 -- three words are the list of their texts
 pub three_texts : (words : List (Bor (List ℕ))) (d : Bor (List ℕ)) → 3 ≤ length words → length words < 4 → texts words ≡ (get_or words 0 d).now ∷ (get_or words 1 d).now ∷ (get_or words 2 d).now ∷ []
@@ -90,11 +92,9 @@ six_words words d first least most same =
 pub has_no_form : (words : List (List ℕ)) → NoPlant words → NoPlan words → NoReplanning words → NoLog words → NoHorizons words → NoConflicts words → NoParts words → HasNoForm words
 has_no_form words plant plan replan log least conflict parts (Solving file budget) = plant.solving file budget
 has_no_form words plant plan replan log least conflict parts (Logging file budget name) = plant.logging file name budget
+has_no_form words plant plan replan log least conflict parts (Printing usage file) = plant.printing usage file
 has_no_form words plant plan replan log least conflict parts (Simulating usage file starts) = plan.simulating usage file starts
-has_no_form words plant plan replan log least conflict parts (Checking file name) = log.checking file name
-has_no_form words plant plan replan log least conflict parts (Telling file name) = log.listing.telling file name
-has_no_form words plant plan replan log least conflict parts (Numbering file) = log.listing.numbering file
-has_no_form words plant plan replan log least conflict parts (Upgrading file) = plant.upgrading file
+has_no_form words plant plan replan log least conflict parts (Telling usage file name) = log.telling usage file name
 has_no_form words plant plan replan log least conflict parts (Showing seed) = plant.showing seed
 has_no_form words plant plan replan log least conflict parts (Replanning file starts period budget) = replan.replanning file starts period budget
 has_no_form words plant plan replan log least conflict parts (ReplanLogging file starts period budget name) = replan.logging file starts name period budget
@@ -122,9 +122,9 @@ last_form words (Some command) plant plan replan log least conflict parts = part
 
 -- the last form of those on a plant alone
 pub last_plant_form : (words : List (List ℕ)) (command : Option Command) → ((plant : List ℕ) (budget : ℕ) → ¬ Says words (Solving plant budget)) → ((plant log : List ℕ) (budget : ℕ) → ¬ Says words (Logging plant budget log))
-    → ((plant : List ℕ) → ¬ Says words (Upgrading plant)) → MatchOption command ((seed : ℕ) → ¬ Says words (Showing seed)) (λ c. Says words (meaning c)) → MatchOption command (NoPlant words) (λ c. Says words (meaning c))
-last_plant_form words None solve log upgrade demo = record { solving = solve; logging = log; upgrading = upgrade; showing = demo }
-last_plant_form words (Some command) solve log upgrade demo = demo
+    → ((usage : PlantUse) (plant : List ℕ) → ¬ Says words (Printing usage plant)) → MatchOption command ((seed : ℕ) → ¬ Says words (Showing seed)) (λ c. Says words (meaning c)) → MatchOption command (NoPlant words) (λ c. Says words (meaning c))
+last_plant_form words None solve log print demo = record { solving = solve; logging = log; printing = print; showing = demo }
+last_plant_form words (Some command) solve log print demo = demo
 
 -- the last form of those that keep starts of a plan or begin with one
 pub last_replan_form : (words : List (List ℕ)) (command : Option Command) → ((plant plan : List ℕ) (period budget : ℕ) → ¬ Says words (Replanning plant plan period budget))
@@ -134,17 +134,11 @@ last_replan_form words None replan log check improve = record { replanning = rep
 last_replan_form words (Some command) replan log check improve = improve
 
 -- the last form of those on logs that are given
-pub last_log_form : (words : List (List ℕ)) (command : Option Command) → ((plant log : List ℕ) → ¬ Says words (Checking plant log)) → NoListing words
+pub last_log_form : (words : List (List ℕ)) (command : Option Command) → ((usage : LogUse) (plant log : List ℕ) → ¬ Says words (Telling usage plant log))
     → ((plant log state : List ℕ) (step : ℤ) (count : ℕ) → ¬ Says words (Estimating plant log state step count)) → ((plant log out : List ℕ) (budget : ℕ) (share : Option (ℕ × ℕ)) → ¬ Says words (Resuming plant log budget out share))
     → MatchOption command ((plant stem out : List ℕ) (count : ℕ) → ¬ Says words (Merging plant stem count out)) (λ c. Says words (meaning c)) → MatchOption command (NoLog words) (λ c. Says words (meaning c))
-last_log_form words None check list estimate resume merge = record { checking = check; listing = list; estimating = estimate; resuming = resume; merging = merge }
-last_log_form words (Some command) check list estimate resume merge = merge
-
--- the last form of those that list what a log or a plant holds
-pub last_listing_form : (words : List (List ℕ)) (command : Option Command) → ((plant log : List ℕ) → ¬ Says words (Telling plant log))
-    → MatchOption command ((plant : List ℕ) → ¬ Says words (Numbering plant)) (λ c. Says words (meaning c)) → MatchOption command (NoListing words) (λ c. Says words (meaning c))
-last_listing_form words None tell number = record { telling = tell; numbering = number }
-last_listing_form words (Some command) tell number = number
+last_log_form words None tell estimate resume merge = record { telling = tell; estimating = estimate; resuming = resume; merging = merge }
+last_log_form words (Some command) tell estimate resume merge = merge
 
 -- the last form of those that try one horizon after another
 pub last_horizon_form : (words : List (List ℕ)) (command : Option Command) → ((plant : List ℕ) (budget : ℕ) → ¬ Says words (Seeking plant budget)) → ((plant stem : List ℕ) (budget : ℕ) → ¬ Says words (Tracing plant budget stem))

@@ -4,8 +4,12 @@ use Rattle.std.specs.Option.{option_map}
 use Rattle.std.specs.Fmt.{signed_decimal}
 use Rattle.proof_log.specs.LogNames.{log_name}
 use Rattle.std.specs.Borrow.{Bor}
-use Rattle.command_words.specs.declared.command.PlanUse.{PlanUse}
-use Rattle.command_words.specs.declared.command.PlanUse.TheVariants.{Simulate, Report, Picture, Table, Violations}
+use Rattle.command_words.specs.declared.uses.PlantUse.{PlantUse}
+use Rattle.command_words.specs.declared.uses.PlantUse.TheVariants.{Upgrade, Slots}
+use Rattle.command_words.specs.declared.uses.PlanUse.{PlanUse}
+use Rattle.command_words.specs.declared.uses.PlanUse.TheVariants.{Simulate, Report, Picture, Table, Violations}
+use Rattle.command_words.specs.declared.uses.LogUse.{LogUse}
+use Rattle.command_words.specs.declared.uses.LogUse.TheVariants.{Check, Plan}
 use Rattle.plan_tables.specs.declared.kind.TableKind.{TableKind}
 use Rattle.plan_tables.specs.declared.kind.TableKind.TheVariants.{Batches, Stocks, Loads, Units, Deliveries}
 use Rattle.command_words.specs.declared.share.Share.{Share}
@@ -16,11 +20,9 @@ use Rattle.command_words.specs.declared.command.Command.TheVariants as variants
 pub data Request : Type 0 where
   Solving : (plant : List ℕ) (budget : ℕ) → Request
   Logging : (plant : List ℕ) (budget : ℕ) (log : List ℕ) → Request
+  Printing : (usage : PlantUse) (plant : List ℕ) → Request
   Simulating : (usage : PlanUse) (plant plan : List ℕ) → Request
-  Checking : (plant log : List ℕ) → Request
-  Telling : (plant log : List ℕ) → Request
-  Upgrading : (plant : List ℕ) → Request
-  Numbering : (plant : List ℕ) → Request
+  Telling : (usage : LogUse) (plant log : List ℕ) → Request
   Showing : (seed : ℕ) → Request
   Replanning : (plant plan : List ℕ) (period budget : ℕ) → Request
   ReplanLogging : (plant plan : List ℕ) (period budget : ℕ) (log : List ℕ) → Request
@@ -39,6 +41,16 @@ pub data Request : Type 0 where
   Joining : (plant : List ℕ) (levels : ℕ) (stem log : List ℕ) → Request
   Resuming : (plant log : List ℕ) (budget : ℕ) (out : List ℕ) (share : Option (ℕ × ℕ)) → Request
   Merging : (plant stem : List ℕ) (count : ℕ) (out : List ℕ) → Request
+
+-- the first word of a command that prints what a plant holds
+abbrev pub plant_word : PlantUse → List ℕ
+plant_word Upgrade = codes "upgrade"
+plant_word Slots = codes "slots"
+
+-- the first word of a command that tells what a log shows
+abbrev pub log_word : LogUse → List ℕ
+log_word Check = codes "check"
+log_word Plan = codes "plan"
 
 -- the first word of a command that simulates a plan
 abbrev pub use_word : PlanUse → List ℕ
@@ -59,10 +71,7 @@ kind_words Deliveries = codes "deliveries" ∷ []
 -- the words of such a command after its files
 abbrev pub last_words : PlanUse → List (List ℕ)
 last_words (Table kind) = kind_words kind
-last_words Simulate = []
-last_words Report = []
-last_words Picture = []
-last_words Violations = []
+last_words _ = []
 
 -- the bytes of the words
 abbrev pub texts : List (Bor (List ℕ)) → List (List ℕ)
@@ -163,11 +172,9 @@ abbrev pub Says : List (List ℕ) → Request → Type 0
 Says words (Solving plant budget) = (word : List ℕ) × ((words ≡ codes "solve" ∷ plant ∷ word ∷ []) × (plant ≢ []) × IsBudget word budget)
 Says words (Logging plant budget log) =
     (word : List ℕ) × ((words ≡ codes "solve" ∷ plant ∷ word ∷ log ∷ []) × (plant ≢ []) × (log ≢ []) × (log ≢ plant) × IsBudget word budget)
+Says words (Printing usage plant) = (words ≡ plant_word usage ∷ plant ∷ []) × (plant ≢ [])
 Says words (Simulating usage plant plan) = (words ≡ use_word usage ∷ plant ∷ plan ∷ last_words usage) × (plant ≢ []) × (plan ≢ [])
-Says words (Checking plant log) = (words ≡ codes "check" ∷ plant ∷ log ∷ []) × (plant ≢ []) × (log ≢ [])
-Says words (Telling plant log) = (words ≡ codes "plan" ∷ plant ∷ log ∷ []) × (plant ≢ []) × (log ≢ [])
-Says words (Numbering plant) = (words ≡ codes "slots" ∷ plant ∷ []) × (plant ≢ [])
-Says words (Upgrading plant) = (words ≡ codes "upgrade" ∷ plant ∷ []) × (plant ≢ [])
+Says words (Telling usage plant log) = (words ≡ log_word usage ∷ plant ∷ log ∷ []) × (plant ≢ []) × (log ≢ [])
 Says words (Showing seed) = (word : List ℕ) × ((words ≡ codes "demo" ∷ word ∷ []) × IsSeed word seed)
 Says words (Replanning plant plan period budget) =
     (from : List ℕ) × ((most : List ℕ) × ((words ≡ codes "replan" ∷ plant ∷ plan ∷ from ∷ most ∷ []) × (plant ≢ []) × (plan ≢ []) × IsPeriod from period × IsBudget most budget))
@@ -208,11 +215,11 @@ Says words (Merging plant stem count out) =
 abbrev pub HasNoForm : List (List ℕ) → Type 0
 HasNoForm words = (request : Request) → ¬ Says words request
 
--- the words say no planning of a plant alone, no printing of one, and no demonstration
+-- the words say no planning of a plant alone, no printing of what it holds, and no demonstration
 pub record NoPlant (words : List (List ℕ)) : Type 0 where
   pub solving : (plant : List ℕ) (budget : ℕ) → ¬ Says words (Solving plant budget)
   pub logging : (plant log : List ℕ) (budget : ℕ) → ¬ Says words (Logging plant budget log)
-  pub upgrading : (plant : List ℕ) → ¬ Says words (Upgrading plant)
+  pub printing : (usage : PlantUse) (plant : List ℕ) → ¬ Says words (Printing usage plant)
   pub showing : (seed : ℕ) → ¬ Says words (Showing seed)
 
 -- the words say no request that simulates a plan or carries one on
@@ -227,16 +234,9 @@ pub record NoReplanning (words : List (List ℕ)) : Type 0 where
   pub checking : (plant plan log : List ℕ) (period : ℕ) → ¬ Says words (CheckingReplan plant plan period log)
   pub improving : (plant plan : List ℕ) (budget : ℕ) (log : Option (List ℕ)) → ¬ Says words (Improving plant plan budget log)
 
--- the words say no request to list what a log or a plant holds
-pub record NoListing (words : List (List ℕ)) : Type 0 where
-  pub telling : (plant log : List ℕ) → ¬ Says words (Telling plant log)
-  pub numbering : (plant : List ℕ) → ¬ Says words (Numbering plant)
-
--- the words say no request on logs that are given: to check one, to list what it or a plant holds, to estimate by it, to go on from it
--- or to merge several
+-- the words say no request on logs that are given: to tell what one shows, to estimate by it, to go on from it or to merge several
 pub record NoLog (words : List (List ℕ)) : Type 0 where
-  pub checking : (plant log : List ℕ) → ¬ Says words (Checking plant log)
-  pub listing : NoListing words
+  pub telling : (usage : LogUse) (plant log : List ℕ) → ¬ Says words (Telling usage plant log)
   pub estimating : (plant log state : List ℕ) (step : ℤ) (count : ℕ) → ¬ Says words (Estimating plant log state step count)
   pub resuming : (plant log out : List ℕ) (budget : ℕ) (share : Option (ℕ × ℕ)) → ¬ Says words (Resuming plant log budget out share)
   pub merging : (plant stem out : List ℕ) (count : ℕ) → ¬ Says words (Merging plant stem count out)
@@ -271,11 +271,9 @@ share_numbers share = (share.number, share.shares)
 abbrev pub meaning : declared.Command → Request
 meaning (variants.Solve plant budget) = Solving plant.now budget.boxes
 meaning (variants.Log plant budget log) = Logging plant.now budget.boxes log.now
+meaning (variants.Print usage plant) = Printing usage plant.now
 meaning (variants.Simulate usage plant plan) = Simulating usage plant.now plan.now
-meaning (variants.Check plant log) = Checking plant.now log.now
-meaning (variants.Plan plant log) = Telling plant.now log.now
-meaning (variants.Slots plant) = Numbering plant.now
-meaning (variants.Upgrade plant) = Upgrading plant.now
+meaning (variants.Tell usage plant log) = Telling usage plant.now log.now
 meaning (variants.Demo seed) = Showing seed
 meaning (variants.Replan plant plan period budget) = Replanning plant.now plan.now period.number budget.boxes
 meaning (variants.LogReplan plant plan period budget log) = ReplanLogging plant.now plan.now period.number budget.boxes log.now

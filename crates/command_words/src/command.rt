@@ -1,7 +1,8 @@
 //! The words of a command.
 ghost use Rattle.std.specs.Prelude.{◌≡◌, ◌≢◌, ◌↔◌, ◌<◌, true, ℕ, List, MatchOption};
 ghost use Rattle.proof_log.specs.LogNames.{log_name};
-ghost use Rattle.command_words.specs.Words.{Says, HasNoForm, IsBudget, IsSeed, Solving, Logging, Upgrading, Showing, texts, meaning, Seeking, Tracing, Auditing, NoHorizons, NoPlant, IsHorizon, IsNoLog};
+ghost use Rattle.command_words.specs.declared.uses.PlantUse.{PlantUse as OfPlant};
+ghost use Rattle.command_words.specs.Words.{Says, HasNoForm, IsBudget, IsSeed, Solving, Logging, Printing, Showing, texts, meaning, Seeking, Tracing, Auditing, NoHorizons, NoPlant, IsHorizon, IsNoLog};
 
 use crate::budget::{Budget, MAX_BUDGET};
 use crate::conflict_words::conflict_form;
@@ -14,23 +15,8 @@ use crate::plan_words::plan_form;
 use crate::replan_words::replan_form;
 use crate::share::Share;
 use crate::steps::Steps;
-use plan_tables::TableKind;
+use crate::uses::{LogUse, PlanUse, PlantUse, plant_use_of};
 use text_words::read_number;
-
-/// What is done with a plan.
-#[derive(Clone, Copy, Debug, PartialEq, Eq)]
-pub enum PlanUse {
-    /// Say what it earns, or what it breaks first.
-    Simulate,
-    /// Show it, or say what it breaks first.
-    Report,
-    /// Draw it, or say what it breaks first.
-    Picture,
-    /// Print one of its tables, or say what it breaks first.
-    Table(TableKind),
-    /// Say everything that it breaks, or what it earns.
-    Violations,
-}
 
 /// What the words ask for.
 #[derive(Clone, Copy)]
@@ -46,30 +32,22 @@ pub enum Command<'a> {
         budget: Budget,
         log: &'a str,
     },
-    /// `simulate PLANT PLAN`, `report PLANT PLAN`, `picture PLANT PLAN`, `table PLANT PLAN ..` and `violations PLANT PLAN`:
-    /// simulate a plan.
+    /// Print what a plant holds, as `PlantUse` has it: `upgrade PLANT` and others.
+    Print {
+        usage: PlantUse,
+        plant: &'a str,
+    },
+    /// Simulate a plan, as `PlanUse` has it: `report PLANT PLAN` and others.
     Simulate {
         usage: PlanUse,
         plant: &'a str,
         plan: &'a str,
     },
-    /// `check PLANT LOG`: check a proof log.
-    Check {
+    /// Tell what a proof log shows, as `LogUse` has it: `check PLANT LOG` and others.
+    Tell {
+        usage: LogUse,
         plant: &'a str,
         log: &'a str,
-    },
-    /// `plan PLANT LOG`: print the plan that a proof log claims.
-    Plan {
-        plant: &'a str,
-        log: &'a str,
-    },
-    /// `slots PLANT`: print the slots and the rows of the plant's program by number.
-    Slots {
-        plant: &'a str,
-    },
-    /// `upgrade PLANT`: print the plant as a file of version 3 where it is of version 3, else of version 2.
-    Upgrade {
-        plant: &'a str,
     },
     /// `demo SEED`: make a plant of the seed, plan it and check the log.
     Demo {
@@ -227,7 +205,7 @@ fn plant_form<'a>(words: &[&'a str]) -> Option<Command<'a>>
     if let Some(command) = log_of(words) {
         return Some(command);
     }
-    if let Some(command) = upgrade_of(words) {
+    if let Some(command) = print_of(words) {
         return Some(command);
     }
     demo_of(words)
@@ -287,14 +265,16 @@ pub fn differ(first: &str, second: &str) -> bool
     first != second
 }
 
-fn upgrade_of<'a>(words: &[&'a str]) -> Option<Command<'a>>
-    ensures { MatchOption result ((plant : List ℕ) → ¬ Says (texts words.now) (Upgrading plant))
+fn print_of<'a>(words: &[&'a str]) -> Option<Command<'a>>
+    ensures { MatchOption result ((usage : OfPlant) (plant : List ℕ)
+        → ¬ Says (texts words.now) (Printing usage plant))
         (λ command. Says (texts words.now) (meaning command)) }
 {
     match words {
-        [first, plant] if *first == "upgrade" && !plant.is_empty() => {
-            Some(Command::Upgrade { plant })
-        }
+        [first, plant] if !plant.is_empty() => match plant_use_of(first) {
+            Some(usage) => Some(Command::Print { usage, plant }),
+            None => None,
+        },
         _ => None,
     }
 }

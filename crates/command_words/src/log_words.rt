@@ -1,12 +1,13 @@
 //! The words of the commands on logs that are given.
 ghost use Rattle.std.specs.Prelude.{◌∷◌, ℕ, ℤ, List, MatchOption};
-ghost use Rattle.command_words.specs.Words.{Says, NoLog, IsStep, IsStepCount, Checking, Estimating, texts, meaning};
+ghost use Rattle.command_words.specs.declared.uses.LogUse.{LogUse as OfLog};
+ghost use Rattle.command_words.specs.Words.{Says, NoLog, IsStep, IsStepCount, Telling, Estimating, texts, meaning};
 
 use crate::command::Command;
-use crate::listing_words::listing_form;
 use crate::merge_words::merge_of;
 use crate::resume_words::resume_form;
 use crate::steps::{MAX_STEP, MAX_STEPS, Steps};
+use crate::uses::log_use_of;
 use text_words::read_number;
 
 /// The command on a log that is given, or on several.
@@ -14,10 +15,7 @@ pub fn log_form<'a>(words: &[&'a str]) -> Option<Command<'a>>
     ensures { MatchOption result (NoLog (texts words.now))
         (λ command. Says (texts words.now) (meaning command)) }
 {
-    if let Some(command) = check_of(words) {
-        return Some(command);
-    }
-    if let Some(command) = listing_form(words) {
+    if let Some(command) = tell_of(words) {
         return Some(command);
     }
     if let Some(command) = estimate_of(words) {
@@ -29,15 +27,16 @@ pub fn log_form<'a>(words: &[&'a str]) -> Option<Command<'a>>
     merge_of(words)
 }
 
-fn check_of<'a>(words: &[&'a str]) -> Option<Command<'a>>
-    ensures { MatchOption result ((plant log : List ℕ)
-        → ¬ Says (texts words.now) (Checking plant log))
+fn tell_of<'a>(words: &[&'a str]) -> Option<Command<'a>>
+    ensures { MatchOption result ((usage : OfLog) (plant log : List ℕ)
+        → ¬ Says (texts words.now) (Telling usage plant log))
         (λ command. Says (texts words.now) (meaning command)) }
 {
     match words {
-        [first, plant, log] if *first == "check" && !plant.is_empty() && !log.is_empty() => {
-            Some(Command::Check { plant, log })
-        }
+        [first, plant, log] if !plant.is_empty() && !log.is_empty() => match log_use_of(first) {
+            Some(usage) => Some(Command::Tell { usage, plant, log }),
+            None => None,
+        },
         _ => None,
     }
 }

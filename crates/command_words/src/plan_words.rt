@@ -1,26 +1,20 @@
 //! The words of the commands that simulate a plan or carry one on.
-ghost use Rattle.std.specs.Prelude.{◌≡◌, [], true, false, ℕ, List, MatchOption};
-ghost use Rattle.command_words.specs.Words.{Says, NoPlan, Rolling, Simulating, texts, meaning, use_word, last_words};
+ghost use Rattle.std.specs.Prelude.{◌≡◌, ◌∷◌, [], true, false, ℕ, List, MatchOption};
+ghost use Rattle.plan_tables.specs.declared.kind.TableKind.{TableKind as Kind};
+ghost use Rattle.command_words.specs.declared.uses.PlanUse.{PlanUse as OfPlan};
+ghost use Rattle.command_words.specs.declared.uses.PlanUse.TheVariants.{Table};
+ghost use Rattle.command_words.specs.Words.{Says, NoPlan, Rolling, Simulating, texts, meaning, last_words, kind_words};
 
-use crate::command::{Command, PlanUse};
+use crate::command::Command;
 use crate::replan_words::period_of;
-use crate::table_words::table_of;
+use crate::uses::{PlanUse, kind_of, plan_use_of};
 
 /// The command that simulates a plan, or carries it on to a period.
 pub fn plan_form<'a>(words: &[&'a str]) -> Option<Command<'a>>
     ensures { MatchOption result (NoPlan (texts words.now))
         (λ command. Says (texts words.now) (meaning command)) }
 {
-    if let Some(command) = simulate_of(words, "simulate", PlanUse::Simulate) {
-        return Some(command);
-    }
-    if let Some(command) = simulate_of(words, "report", PlanUse::Report) {
-        return Some(command);
-    }
-    if let Some(command) = simulate_of(words, "picture", PlanUse::Picture) {
-        return Some(command);
-    }
-    if let Some(command) = simulate_of(words, "violations", PlanUse::Violations) {
+    if let Some(command) = simulate_of(words) {
         return Some(command);
     }
     if let Some(command) = table_of(words) {
@@ -32,18 +26,40 @@ pub fn plan_form<'a>(words: &[&'a str]) -> Option<Command<'a>>
     rest_of(words)
 }
 
-/// The command on a plan whose first word is this use's, and that has no word after its files.
-pub fn simulate_of<'a>(words: &[&'a str], word: &str, usage: PlanUse) -> Option<Command<'a>>
-    requires first { word.now ≡ use_word usage }
-    requires last { last_words usage ≡ [] }
-    ensures { MatchOption result ((plant plan : List ℕ)
-        → ¬ Says (texts words.now) (Simulating usage plant plan))
+// The command that simulates a plan, where no word comes after the files.
+fn simulate_of<'a>(words: &[&'a str]) -> Option<Command<'a>>
+    ensures { MatchOption result ((usage : OfPlan) (plant plan : List ℕ)
+        → last_words usage ≡ [] → ¬ Says (texts words.now) (Simulating usage plant plan))
         (λ command. Says (texts words.now) (meaning command)) }
 {
     match words {
-        [first, plant, plan] if *first == word && !plant.is_empty() && !plan.is_empty() => {
-            Some(Command::Simulate { usage, plant, plan })
-        }
+        [first, plant, plan] if !plant.is_empty() && !plan.is_empty() => match plan_use_of(first) {
+            Some(usage) => Some(Command::Simulate { usage, plant, plan }),
+            None => None,
+        },
+        _ => None,
+    }
+}
+
+// The command that prints a table of a plan, where a word names it.
+fn table_of<'a>(words: &[&'a str]) -> Option<Command<'a>>
+    ensures { MatchOption result ((kind : Kind) (word plant plan : List ℕ)
+        → kind_words kind ≡ word ∷ []
+        → ¬ Says (texts words.now) (Simulating (Table kind) plant plan))
+        (λ command. Says (texts words.now) (meaning command)) }
+{
+    match words {
+        [first, plant, plan, word] if *first == "table" && !plant.is_empty() && !plan.is_empty() =>
+            {
+                match kind_of(word) {
+                    Some(kind) => Some(Command::Simulate {
+                        usage: PlanUse::Table(kind),
+                        plant,
+                        plan,
+                    }),
+                    None => None,
+                }
+            }
         _ => None,
     }
 }

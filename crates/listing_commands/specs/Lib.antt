@@ -1,3 +1,3 @@
-pub mod Showing
+pub mod Upgrading
 pub mod Numbering
-pub mod Amounts
+pub mod Printing

@@ -1,1 +1,2 @@
 pub mod CheckReplanLemmas
+pub mod PlanTexts

@@ -1,2 +1,4 @@
-pub mod Checking
+pub mod Showing
+pub mod Telling
 pub mod CheckingReplan
+pub mod Amounts

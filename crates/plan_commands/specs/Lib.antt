@@ -1,3 +1,2 @@
-pub mod Upgrading
 pub mod Rolling
 pub mod laws

@@ -1,11 +1,9 @@
-//! The commands on a plant and a plan that are given: `simulate`, `report`, `picture`, `table`, `violations`, `roll` and `upgrade`.
+//! The commands on a plant and a plan that are given: `simulate`, `report`, `picture`, `table`, `violations` and `roll`.
 #![tactic(auto)]
 
 mod parted;
 mod rolling;
 mod simulation;
-mod upgrading;
 
 pub use rolling::roll_file;
 pub use simulation::simulate_file;
-pub use upgrading::upgrade_file;

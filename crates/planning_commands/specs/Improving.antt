@@ -8,7 +8,7 @@ use Rattle.stn_model.specs.Feasible.{Feasible}
 use Rattle.stn_model.specs.Profit.{profit}
 use Rattle.plan_told.specs.Proofs.{HasPlantProof}
 use Rattle.stn_solve.specs.Begun.{EarnsAtLeast}
-use Rattle.command_words.specs.declared.command.PlanUse.TheVariants.{Simulate}
+use Rattle.command_words.specs.declared.uses.PlanUse.TheVariants.{Simulate}
 use Rattle.answer_texts.specs.Planning.{Planned}
 use Rattle.answer_texts.specs.Simulation.{Simulated}
 use Rattle.answer_texts.specs.Changed.{counted_since}

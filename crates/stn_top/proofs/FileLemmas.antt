@@ -1,14 +1,12 @@
 -- What a run leaves in its files, for whatever request its words say.
-use Rattle.std.proofs.Common.{◌≡◌, ◌≢◌, ℕ, List, [], ◌∷◌, length, get_or, Option, None, Some, inl, sym, ap, ◌∙◌, subst, arith}
+use Rattle.std.proofs.Common.{◌≡◌, ◌≢◌, ◌≤◌, ℕ, List, [], ◌∷◌, length, get_or, Option, None, Some, inl, sym, ap, ◌∙◌, subst, arith}
 use Rattle.std.specs.Prelude.{codes}
 use Rattle.std.specs.Option.{option_map}
 use Rattle.std.specs.FinMap.{get}
 use Rattle.std.proofs.lemmas.Fmt.{decimal_injective}
 use Rattle.stn_edge.specs.Files.{FileMap, OthersStay}
 use Rattle.least_horizon.specs.LogNames.{OthersStayBelow}
-use Rattle.command_words.specs.Words.{Request, Solving, Logging, Simulating, Checking, Telling, Numbering, Upgrading, Showing, Replanning, ReplanLogging, CheckingReplan, Rolling, Improving, Estimating, Seeking, Tracing, Auditing, Parting, PartSolving, Joining, Resuming, Merging, Says, Conflicting, ConflictLogging, CheckingConflict, use_word}
-use Rattle.command_words.specs.declared.command.PlanUse.{PlanUse}
-use Rattle.command_words.specs.declared.command.PlanUse.TheVariants.{Simulate, Report, Picture, Table, Violations}
+use Rattle.command_words.specs.Words.{Request, Solving, Logging, Printing, Simulating, Telling, Showing, Replanning, ReplanLogging, CheckingReplan, Rolling, Improving, Estimating, Seeking, Tracing, Auditing, Parting, PartSolving, Joining, Resuming, Merging, Says, Conflicting, ConflictLogging, CheckingConflict}
 use Rattle.planning_commands.specs.NamedLog.{LogLeft}
 use Rattle.stn_top.specs.Requests.{IsLeft, OthersKept}
 use Rattle.command_words.specs.Words.{IsLevels, IsLogCount, IsPartNumber}
@@ -25,32 +23,16 @@ kept_same request old new same = λ name others. ap (λ (files : Option FileMap)
 
 -- and nothing is left
 pub left_same : (request : Request) (old new : Option FileMap) → new ≡ old → IsLeft request old new
-left_same (Solving plant budget) old new same = same
 left_same (Logging plant budget log) old new same = inl same
-left_same (Simulating usage plant plan) old new same = same
-left_same (Checking plant log) old new same = same
-left_same (Telling plant log) old new same = same
-left_same (Upgrading plant) old new same = same
-left_same (Numbering plant) old new same = same
-left_same (Showing seed) old new same = same
-left_same (Replanning plant plan period budget) old new same = same
 left_same (ReplanLogging plant plan period budget log) old new same = inl same
-left_same (CheckingReplan plant plan period log) old new same = same
-left_same (Improving plant plan budget None) old new same = same
 left_same (Improving plant plan budget (Some log)) old new same = inl same
-left_same (Rolling plant plan period rest) old new same = same
-left_same (Estimating plant log state step count) old new same = same
-left_same (Seeking plant budget) old new same = same
 left_same (Tracing plant budget stem) old new same = inl same
-left_same (Auditing plant horizon stem) old new same = same
-left_same (Conflicting plant budget) old new same = same
 left_same (ConflictLogging plant budget stem) old new same = inl same
-left_same (CheckingConflict plant stem) old new same = same
-left_same (Parting plant levels) old new same = same
 left_same (PartSolving plant levels part budget log) old new same = inl same
 left_same (Joining plant levels stem log) old new same = inl same
 left_same (Resuming plant log budget out share) old new same = inl same
 left_same (Merging plant stem count out) old new same = inl same
+left_same request old new same = same
 
 -- ---- a log
 
@@ -100,54 +82,77 @@ record Leaves (request : Request) (old new : Option FileMap) : Type 0 where
 leaves_same : (request : Request) (old new : Option FileMap) → new ≡ old → Leaves request old new
 leaves_same request old new same = record { kept = kept_same request old new same; left = left_same request old new same }
 
--- how long the first word is
-abbrev first_length : List (List ℕ) → ℕ
-first_length words = length (get_or words 0 [])
+-- the first word
+abbrev first : List (List ℕ) → List ℕ
+first words = get_or words 0 []
 
 -- the first byte of the first word
 abbrev first_byte : List (List ℕ) → ℕ
-first_byte words = get_or (get_or words 0 []) 0 0
+first_byte words = get_or (first words) 0 0
 
--- the third byte of the first word
-abbrev third_byte : List (List ℕ) → ℕ
-third_byte words = get_or (get_or words 0 []) 2 0
+-- the first word of a request; none is said of a use of a plant, a plan or a log
+abbrev first_word : Request → List ℕ
+first_word (Solving plant budget) = codes "solve"
+first_word (Logging plant budget log) = codes "solve"
+first_word (Showing seed) = codes "demo"
+first_word (Replanning plant plan period budget) = codes "replan"
+first_word (ReplanLogging plant plan period budget log) = codes "replan"
+first_word (CheckingReplan plant plan period log) = codes "check-replan"
+first_word (Rolling plant plan period rest) = codes "roll"
+first_word (Improving plant plan budget log) = codes "improve"
+first_word (Estimating plant log state step count) = codes "whatif"
+first_word (Seeking plant budget) = codes "least"
+first_word (Tracing plant budget stem) = codes "least"
+first_word (Auditing plant horizon stem) = codes "check-least"
+first_word (Conflicting plant budget) = codes "conflict"
+first_word (ConflictLogging plant budget stem) = codes "conflict"
+first_word (CheckingConflict plant stem) = codes "check-conflict"
+first_word (Parting plant levels) = codes "parts"
+first_word (PartSolving plant levels part budget log) = codes "solve-part"
+first_word (Joining plant levels stem log) = codes "join"
+first_word (Resuming plant log budget out share) = codes "resume"
+first_word (Merging plant stem count out) = codes "merge"
+first_word _ = []
 
--- that of a command that simulates a plan is no s (115)
-third_use : (usage : PlanUse) → get_or (use_word usage) 2 0 ≢ 115
-third_use Simulate same = omega (arith, same)
-third_use Report same = omega (arith, same)
-third_use Picture same = omega (arith, same)
-third_use Violations same = omega (arith, same)
-third_use (Table kind) same = omega (arith, same)
+-- at least four words, the first of which begins with no t (116), say no use, so their first word is that of what they say
+first_is : (words : List (List ℕ)) (request : Request) → Says words request → 4 ≤ length words → first_byte words ≢ 116 → first words ≡ first_word request
+first_is words (Printing usage plant) says long other = (let same = ap length says.0 in absurd (omega (arith, same, long)))
+first_is words (Telling usage plant log) says long other = (let same = ap length says.0 in absurd (omega (arith, same, long)))
+first_is words (Simulating usage plant plan) says long other = absurd (no_use words usage plant plan says.0 long other)
+first_is words (Solving plant budget) says long other = ap first says.1.0
+first_is words (Logging plant budget log) says long other = ap first says.1.0
+first_is words (Showing seed) says long other = ap first says.1.0
+first_is words (Replanning plant plan period budget) says long other = ap first says.1.1.0
+first_is words (ReplanLogging plant plan period budget log) says long other = ap first says.1.1.0
+first_is words (CheckingReplan plant plan period log) says long other = ap first says.1.0
+first_is words (Rolling plant plan period rest) says long other = ap first says.1.0
+first_is words (Improving plant plan budget log) says long other = ap first says.1.0
+first_is words (Estimating plant log state step count) says long other = ap first says.1.1.0
+first_is words (Seeking plant budget) says long other = ap first says.1.0
+first_is words (Tracing plant budget stem) says long other = ap first says.1.0
+first_is words (Auditing plant horizon stem) says long other = ap first says.1.0
+first_is words (Conflicting plant budget) says long other = ap first says.1.0
+first_is words (ConflictLogging plant budget stem) says long other = ap first says.1.0
+first_is words (CheckingConflict plant stem) says long other = ap first says.0
+first_is words (Parting plant levels) says long other = ap first says.1.0
+first_is words (PartSolving plant levels part budget log) says long other = ap first says.1.1.1.0
+first_is words (Joining plant levels stem log) says long other = ap first says.1.0
+first_is words (Resuming plant log budget out share) says long other = ap first says.1.1.0
+first_is words (Merging plant stem count out) says long other = ap first says.1.0
+
+-- so where the first word is known, it is that of what else they say
+also_first : (words : List (List ℕ)) (word : List ℕ) (request : Request) → first words ≡ word → 4 ≤ length words → first_byte words ≢ 116 → Says words request → word ≡ first_word request
+also_first words word request is long other says = sym is ∙ first_is words request says long other
+
+-- words that are the same have the same length, first byte and third byte
+marks_same : {a b : List ℕ} → a ≡ b → (length a ≡ length b) × ((get_or a 0 0 ≡ get_or b 0 0) × (get_or a 2 0 ≡ get_or b 2 0))
+marks_same same = (ap length same, (ap (λ (word : List ℕ). get_or word 0 0) same, ap (λ (word : List ℕ). get_or word 2 0) same))
 
 -- the words of a planning with a log say no other request
 leaves_log : (words : List (List ℕ)) (plant : List ℕ) (budget : ℕ) (log : List ℕ) (other : Request) (old new : Option FileMap) → Says words (Logging plant budget log) → Says words other
-    → Leaves (Logging plant budget log) old new → Leaves other old new
-leaves_log words plant budget log (Resuming plant2 log2 budget2 out2 share2) old new says also is = (let same = ap third_byte (sym says.1.0 ∙ also.1.1.0) in absurd (omega (arith, same)))
-leaves_log words plant budget log (Merging plant2 stem2 count2 out2) old new says also is = (let same = ap first_byte (sym says.1.0 ∙ also.1.0) in absurd (omega (arith, same)))
-leaves_log words plant budget log (Solving plant2 budget2) old new says also is = (let same = ap length (sym says.1.0 ∙ also.1.0) in absurd (omega (arith, same)))
-leaves_log words plant budget log (Simulating usage plant2 plan2) old new says also is = absurd (no_use words usage plant2 plan2 also.0 (let long = ap length says.1.0 in omega (arith, long)) (λ t. let first = ap first_byte says.1.0 in omega (arith, t, first)))
-leaves_log words plant budget log (Checking plant2 log2) old new says also is = (let same = ap length (sym says.1.0 ∙ also.0) in absurd (omega (arith, same)))
-leaves_log words plant budget log (Telling plant2 log2) old new says also is = (let same = ap length (sym says.1.0 ∙ also.0) in absurd (omega (arith, same)))
-leaves_log words plant budget log (Upgrading plant2) old new says also is = (let same = ap length (sym says.1.0 ∙ also.0) in absurd (omega (arith, same)))
-leaves_log words plant budget log (Numbering plant2) old new says also is = (let same = ap length (sym says.1.0 ∙ also.0) in absurd (omega (arith, same)))
-leaves_log words plant budget log (Showing seed) old new says also is = (let same = ap length (sym says.1.0 ∙ also.1.0) in absurd (omega (arith, same)))
-leaves_log words plant budget log (Replanning plant2 plan2 period2 budget2) old new says also is = (let same = ap length (sym says.1.0 ∙ also.1.1.0) in absurd (omega (arith, same)))
-leaves_log words plant budget log (ReplanLogging plant2 plan2 period2 budget2 log2) old new says also is = (let same = ap length (sym says.1.0 ∙ also.1.1.0) in absurd (omega (arith, same)))
-leaves_log words plant budget log (CheckingReplan plant2 plan2 period2 log2) old new says also is = (let same = ap length (sym says.1.0 ∙ also.1.0) in absurd (omega (arith, same)))
-leaves_log words plant budget log (Improving plant2 plan2 budget2 log2) old new says also is = (let same = ap first_byte (sym says.1.0 ∙ also.1.0) in absurd (omega (arith, same)))
-leaves_log words plant budget log (Rolling plant2 plan2 period2 rest2) old new says also is = (let same = ap first_length (sym says.1.0 ∙ also.1.0) in absurd (omega (arith, same)))
-leaves_log words plant budget log (Estimating plant2 log2 state step count) old new says also is = (let same = ap length (sym says.1.0 ∙ also.1.1.0) in absurd (omega (arith, same)))
-leaves_log words plant budget log (Seeking plant2 budget2) old new says also is = (let same = ap length (sym says.1.0 ∙ also.1.0) in absurd (omega (arith, same)))
-leaves_log words plant budget log (Tracing plant2 budget2 stem2) old new says also is = (let same = ap first_byte (sym says.1.0 ∙ also.1.0) in absurd (omega (arith, same)))
-leaves_log words plant budget log (Auditing plant2 horizon2 stem2) old new says also is = (let same = ap first_byte (sym says.1.0 ∙ also.1.0) in absurd (omega (arith, same)))
-leaves_log words plant budget log (Conflicting plant2 budget2) old new says also is = (let same = ap length (sym says.1.0 ∙ also.1.0) in absurd (omega (arith, same)))
-leaves_log words plant budget log (ConflictLogging plant2 budget2 stem2) old new says also is = (let same = ap first_byte (sym says.1.0 ∙ also.1.0) in absurd (omega (arith, same)))
-leaves_log words plant budget log (CheckingConflict plant2 stem2) old new says also is = (let same = ap length (sym says.1.0 ∙ also.0) in absurd (omega (arith, same)))
-leaves_log words plant budget log (Parting plant2 levels2) old new says also is = (let same = ap length (sym says.1.0 ∙ also.1.0) in absurd (omega (arith, same)))
-leaves_log words plant budget log (PartSolving plant2 levels2 part2 budget2 log2) old new says also is = (let same = ap length (sym says.1.0 ∙ also.1.1.1.0) in absurd (omega (arith, same)))
-leaves_log words plant budget log (Joining plant2 levels2 stem2 log2) old new says also is = (let same = ap length (sym says.1.0 ∙ also.1.0) in absurd (omega (arith, same)))
-leaves_log words plant budget log (Logging plant2 budget2 log2) old new says also is =
+    → codes "solve" ≡ first_word other → Leaves (Logging plant budget log) old new → Leaves other old new
+leaves_log words plant budget log (Solving plant2 budget2) old new says also same_word is = (let same = ap length (sym says.1.0 ∙ also.1.0) in absurd (omega (arith, same)))
+leaves_log words plant budget log (Logging plant2 budget2 log2) old new says also same_word is =
     let same : codes "solve" ∷ plant ∷ says.0 ∷ log ∷ [] ≡ codes "solve" ∷ plant2 ∷ also.0 ∷ log2 ∷ [] = sym says.1.0 ∙ also.1.0 in
     let same_plant : plant ≡ plant2 = ap (λ (ws : List (List ℕ)). get_or ws 1 []) same in
     let same_log : log ≡ log2 = ap (λ (ws : List (List ℕ)). get_or ws 3 []) same in
@@ -155,36 +160,13 @@ leaves_log words plant budget log (Logging plant2 budget2 log2) old new says als
       kept = subst (λ (l : List ℕ). OthersKept (Logging plant2 budget2 l) old new) same_log is.kept;
       left = subst (λ (l : List ℕ). IsLeft (Logging plant2 budget2 l) old new) same_log (subst (λ (p : List ℕ). IsLeft (Logging p budget log) old new) same_plant is.left);
     }
+leaves_log words plant budget log other old new says also same is = (let marks = marks_same same in absurd (omega (arith, marks.0, marks.1.0, marks.1.1)))
 
 -- the words of a replanning with a log say no other request
 leaves_replan : (words : List (List ℕ)) (plant plan : List ℕ) (period budget : ℕ) (log : List ℕ) (other : Request) (old new : Option FileMap) → Says words (ReplanLogging plant plan period budget log) → Says words other
-    → Leaves (ReplanLogging plant plan period budget log) old new → Leaves other old new
-leaves_replan words plant plan period budget log (Resuming plant2 log2 budget2 out2 share2) old new says also is = (let same = ap third_byte (sym says.1.1.0 ∙ also.1.1.0) in absurd (omega (arith, same)))
-leaves_replan words plant plan period budget log (Merging plant2 stem2 count2 out2) old new says also is = (let same = ap first_byte (sym says.1.1.0 ∙ also.1.0) in absurd (omega (arith, same)))
-leaves_replan words plant plan period budget log (Solving plant2 budget2) old new says also is = (let same = ap length (sym says.1.1.0 ∙ also.1.0) in absurd (omega (arith, same)))
-leaves_replan words plant plan period budget log (Logging plant2 budget2 log2) old new says also is = (let same = ap length (sym says.1.1.0 ∙ also.1.0) in absurd (omega (arith, same)))
-leaves_replan words plant plan period budget log (Simulating usage plant2 plan2) old new says also is = absurd (no_use words usage plant2 plan2 also.0 (let long = ap length says.1.1.0 in omega (arith, long)) (λ t. let first = ap first_byte says.1.1.0 in omega (arith, t, first)))
-leaves_replan words plant plan period budget log (Checking plant2 log2) old new says also is = (let same = ap length (sym says.1.1.0 ∙ also.0) in absurd (omega (arith, same)))
-leaves_replan words plant plan period budget log (Telling plant2 log2) old new says also is = (let same = ap length (sym says.1.1.0 ∙ also.0) in absurd (omega (arith, same)))
-leaves_replan words plant plan period budget log (Upgrading plant2) old new says also is = (let same = ap length (sym says.1.1.0 ∙ also.0) in absurd (omega (arith, same)))
-leaves_replan words plant plan period budget log (Numbering plant2) old new says also is = (let same = ap length (sym says.1.1.0 ∙ also.0) in absurd (omega (arith, same)))
-leaves_replan words plant plan period budget log (Showing seed) old new says also is = (let same = ap length (sym says.1.1.0 ∙ also.1.0) in absurd (omega (arith, same)))
-leaves_replan words plant plan period budget log (Replanning plant2 plan2 period2 budget2) old new says also is = (let same = ap length (sym says.1.1.0 ∙ also.1.1.0) in absurd (omega (arith, same)))
-leaves_replan words plant plan period budget log (CheckingReplan plant2 plan2 period2 log2) old new says also is = (let same = ap length (sym says.1.1.0 ∙ also.1.0) in absurd (omega (arith, same)))
-leaves_replan words plant plan period budget log (Improving plant2 plan2 budget2 log2) old new says also is = (let same = ap first_byte (sym says.1.1.0 ∙ also.1.0) in absurd (omega (arith, same)))
-leaves_replan words plant plan period budget log (Seeking plant2 budget2) old new says also is = (let same = ap length (sym says.1.1.0 ∙ also.1.0) in absurd (omega (arith, same)))
-leaves_replan words plant plan period budget log (Tracing plant2 budget2 stem2) old new says also is = (let same = ap length (sym says.1.1.0 ∙ also.1.0) in absurd (omega (arith, same)))
-leaves_replan words plant plan period budget log (Auditing plant2 horizon2 stem2) old new says also is = (let same = ap length (sym says.1.1.0 ∙ also.1.0) in absurd (omega (arith, same)))
-leaves_replan words plant plan period budget log (Conflicting plant2 budget2) old new says also is = (let same = ap length (sym says.1.1.0 ∙ also.1.0) in absurd (omega (arith, same)))
-leaves_replan words plant plan period budget log (ConflictLogging plant2 budget2 stem2) old new says also is = (let same = ap length (sym says.1.1.0 ∙ also.1.0) in absurd (omega (arith, same)))
-leaves_replan words plant plan period budget log (CheckingConflict plant2 stem2) old new says also is = (let same = ap length (sym says.1.1.0 ∙ also.0) in absurd (omega (arith, same)))
-leaves_replan words plant plan period budget log (Parting plant2 levels2) old new says also is = (let same = ap length (sym says.1.1.0 ∙ also.1.0) in absurd (omega (arith, same)))
-leaves_replan words plant plan period budget log (PartSolving plant2 levels2 part2 budget2 log2) old new says also is = (let same = ap first_byte (sym says.1.1.0 ∙ also.1.1.1.0) in absurd (omega (arith, same)))
-leaves_replan words plant plan period budget log (Joining plant2 levels2 stem2 log2) old new says also is = (let same = ap length (sym says.1.1.0 ∙ also.1.0) in absurd (omega (arith, same)))
-leaves_replan words plant plan period budget log (Rolling plant2 plan2 period2 rest2) old new says also is = (let same = ap first_length (sym says.1.1.0 ∙ also.1.0) in absurd (omega (arith, same)))
-leaves_replan words plant plan period budget log (Estimating plant2 log2 state step count) old new says also is =
-    let first : 114 ≡ 119 = ap (λ (ws : List (List ℕ)). get_or (get_or ws 0 []) 0 0) (sym says.1.1.0 ∙ also.1.1.0) in absurd (omega (arith, first))
-leaves_replan words plant plan period budget log (ReplanLogging plant2 plan2 period2 budget2 log2) old new says also is =
+    → codes "replan" ≡ first_word other → Leaves (ReplanLogging plant plan period budget log) old new → Leaves other old new
+leaves_replan words plant plan period budget log (Replanning plant2 plan2 period2 budget2) old new says also same_word is = (let same = ap length (sym says.1.1.0 ∙ also.1.1.0) in absurd (omega (arith, same)))
+leaves_replan words plant plan period budget log (ReplanLogging plant2 plan2 period2 budget2 log2) old new says also same_word is =
     let same : codes "replan" ∷ plant ∷ plan ∷ says.0 ∷ says.1.0 ∷ log ∷ [] ≡ codes "replan" ∷ plant2 ∷ plan2 ∷ also.0 ∷ also.1.0 ∷ log2 ∷ [] = sym says.1.1.0 ∙ also.1.1.0 in
     let word = λ (k : ℕ). ap (λ (ws : List (List ℕ)). get_or ws k []) same in
     let period_is : period ≡ period2 = decimal_injective period period2 (omega (arith, says.1.1.6.most)) (omega (arith, also.1.1.6.most)) (sym says.1.1.6.digits ∙ word 3 ∙ also.1.1.6.digits) in
@@ -196,35 +178,13 @@ leaves_replan words plant plan period budget log (ReplanLogging plant2 plan2 per
           (subst (λ (q : List ℕ). IsLeft (ReplanLogging plant2 q period budget2 log) old new) (word 2)
           (subst (λ (q : List ℕ). IsLeft (ReplanLogging q plan period budget2 log) old new) (word 1) is.left)));
     }
+leaves_replan words plant plan period budget log other old new says also same is = (let marks = marks_same same in absurd (omega (arith, marks.0, marks.1.0, marks.1.1)))
 
 -- the words of finding a least horizon with logs say no other request
 leaves_logs : (words : List (List ℕ)) (plant : List ℕ) (budget : ℕ) (stem : List ℕ) (other : Request) (old new : Option FileMap) → Says words (Tracing plant budget stem) → Says words other
-    → Leaves (Tracing plant budget stem) old new → Leaves other old new
-leaves_logs words plant budget stem (Resuming plant2 log2 budget2 out2 share2) old new says also is = (let same = ap third_byte (sym says.1.0 ∙ also.1.1.0) in absurd (omega (arith, same)))
-leaves_logs words plant budget stem (Merging plant2 stem2 count2 out2) old new says also is = (let same = ap first_byte (sym says.1.0 ∙ also.1.0) in absurd (omega (arith, same)))
-leaves_logs words plant budget stem (Solving plant2 budget2) old new says also is = (let same = ap length (sym says.1.0 ∙ also.1.0) in absurd (omega (arith, same)))
-leaves_logs words plant budget stem (Logging plant2 budget2 log2) old new says also is = (let same = ap first_byte (sym says.1.0 ∙ also.1.0) in absurd (omega (arith, same)))
-leaves_logs words plant budget stem (Simulating usage plant2 plan2) old new says also is = absurd (no_use words usage plant2 plan2 also.0 (let long = ap length says.1.0 in omega (arith, long)) (λ t. let first = ap first_byte says.1.0 in omega (arith, t, first)))
-leaves_logs words plant budget stem (Checking plant2 log2) old new says also is = (let same = ap length (sym says.1.0 ∙ also.0) in absurd (omega (arith, same)))
-leaves_logs words plant budget stem (Telling plant2 log2) old new says also is = (let same = ap length (sym says.1.0 ∙ also.0) in absurd (omega (arith, same)))
-leaves_logs words plant budget stem (Upgrading plant2) old new says also is = (let same = ap length (sym says.1.0 ∙ also.0) in absurd (omega (arith, same)))
-leaves_logs words plant budget stem (Numbering plant2) old new says also is = (let same = ap length (sym says.1.0 ∙ also.0) in absurd (omega (arith, same)))
-leaves_logs words plant budget stem (Showing seed) old new says also is = (let same = ap length (sym says.1.0 ∙ also.1.0) in absurd (omega (arith, same)))
-leaves_logs words plant budget stem (Replanning plant2 plan2 period2 budget2) old new says also is = (let same = ap length (sym says.1.0 ∙ also.1.1.0) in absurd (omega (arith, same)))
-leaves_logs words plant budget stem (ReplanLogging plant2 plan2 period2 budget2 log2) old new says also is = (let same = ap length (sym says.1.0 ∙ also.1.1.0) in absurd (omega (arith, same)))
-leaves_logs words plant budget stem (CheckingReplan plant2 plan2 period2 log2) old new says also is = (let same = ap length (sym says.1.0 ∙ also.1.0) in absurd (omega (arith, same)))
-leaves_logs words plant budget stem (Improving plant2 plan2 budget2 log2) old new says also is = (let same = ap first_byte (sym says.1.0 ∙ also.1.0) in absurd (omega (arith, same)))
-leaves_logs words plant budget stem (Rolling plant2 plan2 period2 rest2) old new says also is = (let same = ap first_length (sym says.1.0 ∙ also.1.0) in absurd (omega (arith, same)))
-leaves_logs words plant budget stem (Estimating plant2 log2 state step count) old new says also is = (let same = ap length (sym says.1.0 ∙ also.1.1.0) in absurd (omega (arith, same)))
-leaves_logs words plant budget stem (Seeking plant2 budget2) old new says also is = (let same = ap length (sym says.1.0 ∙ also.1.0) in absurd (omega (arith, same)))
-leaves_logs words plant budget stem (Auditing plant2 horizon2 stem2) old new says also is = (let same = ap first_byte (sym says.1.0 ∙ also.1.0) in absurd (omega (arith, same)))
-leaves_logs words plant budget stem (Conflicting plant2 budget2) old new says also is = (let same = ap length (sym says.1.0 ∙ also.1.0) in absurd (omega (arith, same)))
-leaves_logs words plant budget stem (ConflictLogging plant2 budget2 stem2) old new says also is = (let same = ap first_byte (sym says.1.0 ∙ also.1.0) in absurd (omega (arith, same)))
-leaves_logs words plant budget stem (CheckingConflict plant2 stem2) old new says also is = (let same = ap length (sym says.1.0 ∙ also.0) in absurd (omega (arith, same)))
-leaves_logs words plant budget stem (Parting plant2 levels2) old new says also is = (let same = ap length (sym says.1.0 ∙ also.1.0) in absurd (omega (arith, same)))
-leaves_logs words plant budget stem (PartSolving plant2 levels2 part2 budget2 log2) old new says also is = (let same = ap length (sym says.1.0 ∙ also.1.1.1.0) in absurd (omega (arith, same)))
-leaves_logs words plant budget stem (Joining plant2 levels2 stem2 log2) old new says also is = (let same = ap length (sym says.1.0 ∙ also.1.0) in absurd (omega (arith, same)))
-leaves_logs words plant budget stem (Tracing plant2 budget2 stem2) old new says also is =
+    → codes "least" ≡ first_word other → Leaves (Tracing plant budget stem) old new → Leaves other old new
+leaves_logs words plant budget stem (Seeking plant2 budget2) old new says also same_word is = (let same = ap length (sym says.1.0 ∙ also.1.0) in absurd (omega (arith, same)))
+leaves_logs words plant budget stem (Tracing plant2 budget2 stem2) old new says also same_word is =
     let same : codes "least" ∷ plant ∷ says.0 ∷ stem ∷ [] ≡ codes "least" ∷ plant2 ∷ also.0 ∷ stem2 ∷ [] = sym says.1.0 ∙ also.1.0 in
     let same_plant : plant ≡ plant2 = ap (λ (ws : List (List ℕ)). get_or ws 1 []) same in
     let same_word : says.0 ≡ also.0 = ap (λ (ws : List (List ℕ)). get_or ws 2 []) same in
@@ -236,35 +196,13 @@ leaves_logs words plant budget stem (Tracing plant2 budget2 stem2) old new says 
       left = subst (λ (s : List ℕ). IsLeft (Tracing plant2 budget2 s) old new) same_stem
           (subst (λ (b : ℕ). IsLeft (Tracing plant2 b stem) old new) same_budget (subst (λ (p : List ℕ). IsLeft (Tracing p budget stem) old new) same_plant is.left));
     }
+leaves_logs words plant budget stem other old new says also same is = (let marks = marks_same same in absurd (omega (arith, marks.0, marks.1.0, marks.1.1)))
 
 -- the words of finding a conflict with its log say no other request
 leaves_conflict : (words : List (List ℕ)) (plant : List ℕ) (budget : ℕ) (stem : List ℕ) (other : Request) (old new : Option FileMap) → Says words (ConflictLogging plant budget stem) → Says words other
-    → Leaves (ConflictLogging plant budget stem) old new → Leaves other old new
-leaves_conflict words plant budget stem (Resuming plant2 log2 budget2 out2 share2) old new says also is = (let same = ap third_byte (sym says.1.0 ∙ also.1.1.0) in absurd (omega (arith, same)))
-leaves_conflict words plant budget stem (Merging plant2 stem2 count2 out2) old new says also is = (let same = ap first_byte (sym says.1.0 ∙ also.1.0) in absurd (omega (arith, same)))
-leaves_conflict words plant budget stem (Solving plant2 budget2) old new says also is = (let same = ap length (sym says.1.0 ∙ also.1.0) in absurd (omega (arith, same)))
-leaves_conflict words plant budget stem (Logging plant2 budget2 log2) old new says also is = (let same = ap first_byte (sym says.1.0 ∙ also.1.0) in absurd (omega (arith, same)))
-leaves_conflict words plant budget stem (Simulating usage plant2 plan2) old new says also is = absurd (no_use words usage plant2 plan2 also.0 (let long = ap length says.1.0 in omega (arith, long)) (λ t. let first = ap first_byte says.1.0 in omega (arith, t, first)))
-leaves_conflict words plant budget stem (Checking plant2 log2) old new says also is = (let same = ap length (sym says.1.0 ∙ also.0) in absurd (omega (arith, same)))
-leaves_conflict words plant budget stem (Telling plant2 log2) old new says also is = (let same = ap length (sym says.1.0 ∙ also.0) in absurd (omega (arith, same)))
-leaves_conflict words plant budget stem (Upgrading plant2) old new says also is = (let same = ap length (sym says.1.0 ∙ also.0) in absurd (omega (arith, same)))
-leaves_conflict words plant budget stem (Numbering plant2) old new says also is = (let same = ap length (sym says.1.0 ∙ also.0) in absurd (omega (arith, same)))
-leaves_conflict words plant budget stem (Showing seed) old new says also is = (let same = ap length (sym says.1.0 ∙ also.1.0) in absurd (omega (arith, same)))
-leaves_conflict words plant budget stem (Replanning plant2 plan2 period2 budget2) old new says also is = (let same = ap length (sym says.1.0 ∙ also.1.1.0) in absurd (omega (arith, same)))
-leaves_conflict words plant budget stem (ReplanLogging plant2 plan2 period2 budget2 log2) old new says also is = (let same = ap length (sym says.1.0 ∙ also.1.1.0) in absurd (omega (arith, same)))
-leaves_conflict words plant budget stem (CheckingReplan plant2 plan2 period2 log2) old new says also is = (let same = ap length (sym says.1.0 ∙ also.1.0) in absurd (omega (arith, same)))
-leaves_conflict words plant budget stem (Improving plant2 plan2 budget2 log2) old new says also is = (let same = ap first_byte (sym says.1.0 ∙ also.1.0) in absurd (omega (arith, same)))
-leaves_conflict words plant budget stem (Rolling plant2 plan2 period2 rest2) old new says also is = (let same = ap first_length (sym says.1.0 ∙ also.1.0) in absurd (omega (arith, same)))
-leaves_conflict words plant budget stem (Estimating plant2 log2 state step count) old new says also is = (let same = ap length (sym says.1.0 ∙ also.1.1.0) in absurd (omega (arith, same)))
-leaves_conflict words plant budget stem (Seeking plant2 budget2) old new says also is = (let same = ap length (sym says.1.0 ∙ also.1.0) in absurd (omega (arith, same)))
-leaves_conflict words plant budget stem (Auditing plant2 horizon2 stem2) old new says also is = (let same = ap first_length (sym says.1.0 ∙ also.1.0) in absurd (omega (arith, same)))
-leaves_conflict words plant budget stem (Conflicting plant2 budget2) old new says also is = (let same = ap length (sym says.1.0 ∙ also.1.0) in absurd (omega (arith, same)))
-leaves_conflict words plant budget stem (CheckingConflict plant2 stem2) old new says also is = (let same = ap length (sym says.1.0 ∙ also.0) in absurd (omega (arith, same)))
-leaves_conflict words plant budget stem (Parting plant2 levels2) old new says also is = (let same = ap length (sym says.1.0 ∙ also.1.0) in absurd (omega (arith, same)))
-leaves_conflict words plant budget stem (PartSolving plant2 levels2 part2 budget2 log2) old new says also is = (let same = ap length (sym says.1.0 ∙ also.1.1.1.0) in absurd (omega (arith, same)))
-leaves_conflict words plant budget stem (Joining plant2 levels2 stem2 log2) old new says also is = (let same = ap length (sym says.1.0 ∙ also.1.0) in absurd (omega (arith, same)))
-leaves_conflict words plant budget stem (Tracing plant2 budget2 stem2) old new says also is = (let same = ap first_byte (sym says.1.0 ∙ also.1.0) in absurd (omega (arith, same)))
-leaves_conflict words plant budget stem (ConflictLogging plant2 budget2 stem2) old new says also is =
+    → codes "conflict" ≡ first_word other → Leaves (ConflictLogging plant budget stem) old new → Leaves other old new
+leaves_conflict words plant budget stem (Conflicting plant2 budget2) old new says also same_word is = (let same = ap length (sym says.1.0 ∙ also.1.0) in absurd (omega (arith, same)))
+leaves_conflict words plant budget stem (ConflictLogging plant2 budget2 stem2) old new says also same_word is =
     let same : codes "conflict" ∷ plant ∷ says.0 ∷ stem ∷ [] ≡ codes "conflict" ∷ plant2 ∷ also.0 ∷ stem2 ∷ [] = sym says.1.0 ∙ also.1.0 in
     let same_plant : plant ≡ plant2 = ap (λ (ws : List (List ℕ)). get_or ws 1 []) same in
     let same_word : says.0 ≡ also.0 = ap (λ (ws : List (List ℕ)). get_or ws 2 []) same in
@@ -276,35 +214,12 @@ leaves_conflict words plant budget stem (ConflictLogging plant2 budget2 stem2) o
       left = subst (λ (s : List ℕ). IsLeft (ConflictLogging plant2 budget2 s) old new) same_stem
           (subst (λ (b : ℕ). IsLeft (ConflictLogging plant2 b stem) old new) same_budget (subst (λ (p : List ℕ). IsLeft (ConflictLogging p budget stem) old new) same_plant is.left));
     }
+leaves_conflict words plant budget stem other old new says also same is = (let marks = marks_same same in absurd (omega (arith, marks.0, marks.1.0, marks.1.1)))
 
 -- the words of planning a part say no other request
 leaves_part : (words : List (List ℕ)) (plant : List ℕ) (levels part budget : ℕ) (log : List ℕ) (other : Request) (old new : Option FileMap) → Says words (PartSolving plant levels part budget log) → Says words other
-    → Leaves (PartSolving plant levels part budget log) old new → Leaves other old new
-leaves_part words plant levels part budget log (Resuming plant2 log2 budget2 out2 share2) old new says also is = (let same = ap third_byte (sym says.1.1.1.0 ∙ also.1.1.0) in absurd (omega (arith, same)))
-leaves_part words plant levels part budget log (Merging plant2 stem2 count2 out2) old new says also is = (let same = ap first_byte (sym says.1.1.1.0 ∙ also.1.0) in absurd (omega (arith, same)))
-leaves_part words plant levels part budget log (Solving plant2 budget2) old new says also is = (let same = ap length (sym says.1.1.1.0 ∙ also.1.0) in absurd (omega (arith, same)))
-leaves_part words plant levels part budget log (Logging plant2 budget2 log2) old new says also is = (let same = ap length (sym says.1.1.1.0 ∙ also.1.0) in absurd (omega (arith, same)))
-leaves_part words plant levels part budget log (Simulating usage plant2 plan2) old new says also is = absurd (no_use words usage plant2 plan2 also.0 (let long = ap length says.1.1.1.0 in omega (arith, long)) (λ t. let first = ap first_byte says.1.1.1.0 in omega (arith, t, first)))
-leaves_part words plant levels part budget log (Checking plant2 log2) old new says also is = (let same = ap length (sym says.1.1.1.0 ∙ also.0) in absurd (omega (arith, same)))
-leaves_part words plant levels part budget log (Telling plant2 log2) old new says also is = (let same = ap length (sym says.1.1.1.0 ∙ also.0) in absurd (omega (arith, same)))
-leaves_part words plant levels part budget log (Upgrading plant2) old new says also is = (let same = ap length (sym says.1.1.1.0 ∙ also.0) in absurd (omega (arith, same)))
-leaves_part words plant levels part budget log (Numbering plant2) old new says also is = (let same = ap length (sym says.1.1.1.0 ∙ also.0) in absurd (omega (arith, same)))
-leaves_part words plant levels part budget log (Showing seed) old new says also is = (let same = ap length (sym says.1.1.1.0 ∙ also.1.0) in absurd (omega (arith, same)))
-leaves_part words plant levels part budget log (Replanning plant2 plan2 period2 budget2) old new says also is = (let same = ap length (sym says.1.1.1.0 ∙ also.1.1.0) in absurd (omega (arith, same)))
-leaves_part words plant levels part budget log (ReplanLogging plant2 plan2 period2 budget2 log2) old new says also is = (let same = ap first_byte (sym says.1.1.1.0 ∙ also.1.1.0) in absurd (omega (arith, same)))
-leaves_part words plant levels part budget log (CheckingReplan plant2 plan2 period2 log2) old new says also is = (let same = ap length (sym says.1.1.1.0 ∙ also.1.0) in absurd (omega (arith, same)))
-leaves_part words plant levels part budget log (Improving plant2 plan2 budget2 log2) old new says also is = (let same = ap first_byte (sym says.1.1.1.0 ∙ also.1.0) in absurd (omega (arith, same)))
-leaves_part words plant levels part budget log (Rolling plant2 plan2 period2 rest2) old new says also is = (let same = ap first_length (sym says.1.1.1.0 ∙ also.1.0) in absurd (omega (arith, same)))
-leaves_part words plant levels part budget log (Estimating plant2 log2 state step count) old new says also is = (let same = ap first_byte (sym says.1.1.1.0 ∙ also.1.1.0) in absurd (omega (arith, same)))
-leaves_part words plant levels part budget log (Seeking plant2 budget2) old new says also is = (let same = ap length (sym says.1.1.1.0 ∙ also.1.0) in absurd (omega (arith, same)))
-leaves_part words plant levels part budget log (Tracing plant2 budget2 stem2) old new says also is = (let same = ap length (sym says.1.1.1.0 ∙ also.1.0) in absurd (omega (arith, same)))
-leaves_part words plant levels part budget log (Auditing plant2 horizon2 stem2) old new says also is = (let same = ap length (sym says.1.1.1.0 ∙ also.1.0) in absurd (omega (arith, same)))
-leaves_part words plant levels part budget log (Conflicting plant2 budget2) old new says also is = (let same = ap length (sym says.1.1.1.0 ∙ also.1.0) in absurd (omega (arith, same)))
-leaves_part words plant levels part budget log (ConflictLogging plant2 budget2 stem2) old new says also is = (let same = ap length (sym says.1.1.1.0 ∙ also.1.0) in absurd (omega (arith, same)))
-leaves_part words plant levels part budget log (CheckingConflict plant2 stem2) old new says also is = (let same = ap length (sym says.1.1.1.0 ∙ also.0) in absurd (omega (arith, same)))
-leaves_part words plant levels part budget log (Parting plant2 levels2) old new says also is = (let same = ap length (sym says.1.1.1.0 ∙ also.1.0) in absurd (omega (arith, same)))
-leaves_part words plant levels part budget log (Joining plant2 levels2 stem2 log2) old new says also is = (let same = ap length (sym says.1.1.1.0 ∙ also.1.0) in absurd (omega (arith, same)))
-leaves_part words plant levels part budget log (PartSolving plant2 levels2 part2 budget2 log2) old new says also is =
+    → codes "solve-part" ≡ first_word other → Leaves (PartSolving plant levels part budget log) old new → Leaves other old new
+leaves_part words plant levels part budget log (PartSolving plant2 levels2 part2 budget2 log2) old new says also same_word is =
     let same : codes "solve-part" ∷ plant ∷ says.0 ∷ says.1.0 ∷ says.1.1.0 ∷ log ∷ [] ≡ codes "solve-part" ∷ plant2 ∷ also.0 ∷ also.1.0 ∷ also.1.1.0 ∷ log2 ∷ [] = sym says.1.1.1.0 ∙ also.1.1.1.0 in
     let word = λ (k : ℕ). ap (λ (ws : List (List ℕ)). get_or ws k []) same in
     let levels_is : levels ≡ levels2 = same_levels also.0 levels levels2 (subst (λ (w : List ℕ). IsLevels w levels) (word 2) says.1.1.1.4) also.1.1.1.4 in
@@ -315,35 +230,12 @@ leaves_part words plant levels part budget log (PartSolving plant2 levels2 part2
           (subst (λ (n : ℕ). IsLeft (PartSolving plant2 levels2 n budget2 log) old new) part_is
           (subst (λ (n : ℕ). IsLeft (PartSolving plant2 n part budget2 log) old new) levels_is (subst (λ (p : List ℕ). IsLeft (PartSolving p levels part budget2 log) old new) (word 1) is.left)));
     }
+leaves_part words plant levels part budget log other old new says also same is = (let marks = marks_same same in absurd (omega (arith, marks.0, marks.1.0, marks.1.1)))
 
 -- the words of joining logs say no other request
 leaves_join : (words : List (List ℕ)) (plant : List ℕ) (levels : ℕ) (stem log : List ℕ) (other : Request) (old new : Option FileMap) → Says words (Joining plant levels stem log) → Says words other
-    → Leaves (Joining plant levels stem log) old new → Leaves other old new
-leaves_join words plant levels stem log (Resuming plant2 log2 budget2 out2 share2) old new says also is = (let same = ap third_byte (sym says.1.0 ∙ also.1.1.0) in absurd (omega (arith, same)))
-leaves_join words plant levels stem log (Merging plant2 stem2 count2 out2) old new says also is = (let same = ap first_byte (sym says.1.0 ∙ also.1.0) in absurd (omega (arith, same)))
-leaves_join words plant levels stem log (Solving plant2 budget2) old new says also is = (let same = ap length (sym says.1.0 ∙ also.1.0) in absurd (omega (arith, same)))
-leaves_join words plant levels stem log (Logging plant2 budget2 log2) old new says also is = (let same = ap length (sym says.1.0 ∙ also.1.0) in absurd (omega (arith, same)))
-leaves_join words plant levels stem log (Simulating usage plant2 plan2) old new says also is = absurd (no_use words usage plant2 plan2 also.0 (let long = ap length says.1.0 in omega (arith, long)) (λ t. let first = ap first_byte says.1.0 in omega (arith, t, first)))
-leaves_join words plant levels stem log (Checking plant2 log2) old new says also is = (let same = ap length (sym says.1.0 ∙ also.0) in absurd (omega (arith, same)))
-leaves_join words plant levels stem log (Telling plant2 log2) old new says also is = (let same = ap length (sym says.1.0 ∙ also.0) in absurd (omega (arith, same)))
-leaves_join words plant levels stem log (Upgrading plant2) old new says also is = (let same = ap length (sym says.1.0 ∙ also.0) in absurd (omega (arith, same)))
-leaves_join words plant levels stem log (Numbering plant2) old new says also is = (let same = ap length (sym says.1.0 ∙ also.0) in absurd (omega (arith, same)))
-leaves_join words plant levels stem log (Showing seed) old new says also is = (let same = ap length (sym says.1.0 ∙ also.1.0) in absurd (omega (arith, same)))
-leaves_join words plant levels stem log (Replanning plant2 plan2 period2 budget2) old new says also is = (let same = ap first_byte (sym says.1.0 ∙ also.1.1.0) in absurd (omega (arith, same)))
-leaves_join words plant levels stem log (ReplanLogging plant2 plan2 period2 budget2 log2) old new says also is = (let same = ap length (sym says.1.0 ∙ also.1.1.0) in absurd (omega (arith, same)))
-leaves_join words plant levels stem log (CheckingReplan plant2 plan2 period2 log2) old new says also is = (let same = ap first_byte (sym says.1.0 ∙ also.1.0) in absurd (omega (arith, same)))
-leaves_join words plant levels stem log (Improving plant2 plan2 budget2 log2) old new says also is = (let same = ap first_byte (sym says.1.0 ∙ also.1.0) in absurd (omega (arith, same)))
-leaves_join words plant levels stem log (Rolling plant2 plan2 period2 rest2) old new says also is = (let same = ap first_byte (sym says.1.0 ∙ also.1.0) in absurd (omega (arith, same)))
-leaves_join words plant levels stem log (Estimating plant2 log2 state step count) old new says also is = (let same = ap length (sym says.1.0 ∙ also.1.1.0) in absurd (omega (arith, same)))
-leaves_join words plant levels stem log (Seeking plant2 budget2) old new says also is = (let same = ap length (sym says.1.0 ∙ also.1.0) in absurd (omega (arith, same)))
-leaves_join words plant levels stem log (Tracing plant2 budget2 stem2) old new says also is = (let same = ap length (sym says.1.0 ∙ also.1.0) in absurd (omega (arith, same)))
-leaves_join words plant levels stem log (Auditing plant2 horizon2 stem2) old new says also is = (let same = ap length (sym says.1.0 ∙ also.1.0) in absurd (omega (arith, same)))
-leaves_join words plant levels stem log (Conflicting plant2 budget2) old new says also is = (let same = ap length (sym says.1.0 ∙ also.1.0) in absurd (omega (arith, same)))
-leaves_join words plant levels stem log (ConflictLogging plant2 budget2 stem2) old new says also is = (let same = ap length (sym says.1.0 ∙ also.1.0) in absurd (omega (arith, same)))
-leaves_join words plant levels stem log (CheckingConflict plant2 stem2) old new says also is = (let same = ap length (sym says.1.0 ∙ also.0) in absurd (omega (arith, same)))
-leaves_join words plant levels stem log (Parting plant2 levels2) old new says also is = (let same = ap length (sym says.1.0 ∙ also.1.0) in absurd (omega (arith, same)))
-leaves_join words plant levels stem log (PartSolving plant2 levels2 part2 budget2 log2) old new says also is = (let same = ap length (sym says.1.0 ∙ also.1.1.1.0) in absurd (omega (arith, same)))
-leaves_join words plant levels stem log (Joining plant2 levels2 stem2 log2) old new says also is =
+    → codes "join" ≡ first_word other → Leaves (Joining plant levels stem log) old new → Leaves other old new
+leaves_join words plant levels stem log (Joining plant2 levels2 stem2 log2) old new says also same_word is =
     let same : codes "join" ∷ plant ∷ says.0 ∷ stem ∷ log ∷ [] ≡ codes "join" ∷ plant2 ∷ also.0 ∷ stem2 ∷ log2 ∷ [] = sym says.1.0 ∙ also.1.0 in
     let word = λ (k : ℕ). ap (λ (ws : List (List ℕ)). get_or ws k []) same in
     let levels_is : levels ≡ levels2 = same_levels also.0 levels levels2 (subst (λ (w : List ℕ). IsLevels w levels) (word 2) says.1.6) also.1.6 in
@@ -353,36 +245,13 @@ leaves_join words plant levels stem log (Joining plant2 levels2 stem2 log2) old 
           (subst (λ (s : List ℕ). IsLeft (Joining plant2 levels2 s log) old new) (word 3)
           (subst (λ (n : ℕ). IsLeft (Joining plant2 n stem log) old new) levels_is (subst (λ (p : List ℕ). IsLeft (Joining p levels stem log) old new) (word 1) is.left)));
     }
+leaves_join words plant levels stem log other old new says also same is = (let marks = marks_same same in absurd (omega (arith, marks.0, marks.1.0, marks.1.1)))
 
 -- the words of planning that begins with a plan, with a log, say no other request
 leaves_improve : (words : List (List ℕ)) (plant plan : List ℕ) (budget : ℕ) (log : List ℕ) (other : Request) (old new : Option FileMap) → Says words (Improving plant plan budget (Some log)) → Says words other
-    → Leaves (Improving plant plan budget (Some log)) old new → Leaves other old new
-leaves_improve words plant plan budget log (Resuming plant2 log2 budget2 out2 share2) old new says also is = (let same = ap third_byte (sym says.1.0 ∙ also.1.1.0) in absurd (omega (arith, same)))
-leaves_improve words plant plan budget log (Merging plant2 stem2 count2 out2) old new says also is = (let same = ap first_byte (sym says.1.0 ∙ also.1.0) in absurd (omega (arith, same)))
-leaves_improve words plant plan budget log (Solving plant2 budget2) old new says also is = (let same = ap first_byte (sym says.1.0 ∙ also.1.0) in absurd (omega (arith, same)))
-leaves_improve words plant plan budget log (Logging plant2 budget2 log2) old new says also is = (let same = ap first_byte (sym says.1.0 ∙ also.1.0) in absurd (omega (arith, same)))
-leaves_improve words plant plan budget log (Checking plant2 log2) old new says also is = (let same = ap first_byte (sym says.1.0 ∙ also.0) in absurd (omega (arith, same)))
-leaves_improve words plant plan budget log (Telling plant2 log2) old new says also is = (let same = ap first_byte (sym says.1.0 ∙ also.0) in absurd (omega (arith, same)))
-leaves_improve words plant plan budget log (Upgrading plant2) old new says also is = (let same = ap first_byte (sym says.1.0 ∙ also.0) in absurd (omega (arith, same)))
-leaves_improve words plant plan budget log (Numbering plant2) old new says also is = (let same = ap first_byte (sym says.1.0 ∙ also.0) in absurd (omega (arith, same)))
-leaves_improve words plant plan budget log (Showing seed) old new says also is = (let same = ap first_byte (sym says.1.0 ∙ also.1.0) in absurd (omega (arith, same)))
-leaves_improve words plant plan budget log (Replanning plant2 plan2 period2 budget2) old new says also is = (let same = ap first_byte (sym says.1.0 ∙ also.1.1.0) in absurd (omega (arith, same)))
-leaves_improve words plant plan budget log (ReplanLogging plant2 plan2 period2 budget2 log2) old new says also is = (let same = ap first_byte (sym says.1.0 ∙ also.1.1.0) in absurd (omega (arith, same)))
-leaves_improve words plant plan budget log (CheckingReplan plant2 plan2 period2 log2) old new says also is = (let same = ap first_byte (sym says.1.0 ∙ also.1.0) in absurd (omega (arith, same)))
-leaves_improve words plant plan budget log (Rolling plant2 plan2 period2 rest2) old new says also is = (let same = ap first_length (sym says.1.0 ∙ also.1.0) in absurd (omega (arith, same)))
-leaves_improve words plant plan budget log (Estimating plant2 log2 state step count) old new says also is = (let same = ap first_byte (sym says.1.0 ∙ also.1.1.0) in absurd (omega (arith, same)))
-leaves_improve words plant plan budget log (Seeking plant2 budget2) old new says also is = (let same = ap first_byte (sym says.1.0 ∙ also.1.0) in absurd (omega (arith, same)))
-leaves_improve words plant plan budget log (Tracing plant2 budget2 stem2) old new says also is = (let same = ap first_byte (sym says.1.0 ∙ also.1.0) in absurd (omega (arith, same)))
-leaves_improve words plant plan budget log (Auditing plant2 horizon2 stem2) old new says also is = (let same = ap first_byte (sym says.1.0 ∙ also.1.0) in absurd (omega (arith, same)))
-leaves_improve words plant plan budget log (Conflicting plant2 budget2) old new says also is = (let same = ap first_byte (sym says.1.0 ∙ also.1.0) in absurd (omega (arith, same)))
-leaves_improve words plant plan budget log (ConflictLogging plant2 budget2 stem2) old new says also is = (let same = ap first_byte (sym says.1.0 ∙ also.1.0) in absurd (omega (arith, same)))
-leaves_improve words plant plan budget log (CheckingConflict plant2 stem2) old new says also is = (let same = ap first_byte (sym says.1.0 ∙ also.0) in absurd (omega (arith, same)))
-leaves_improve words plant plan budget log (Parting plant2 levels2) old new says also is = (let same = ap first_byte (sym says.1.0 ∙ also.1.0) in absurd (omega (arith, same)))
-leaves_improve words plant plan budget log (PartSolving plant2 levels2 part2 budget2 log2) old new says also is = (let same = ap first_byte (sym says.1.0 ∙ also.1.1.1.0) in absurd (omega (arith, same)))
-leaves_improve words plant plan budget log (Joining plant2 levels2 stem2 log2) old new says also is = (let same = ap first_byte (sym says.1.0 ∙ also.1.0) in absurd (omega (arith, same)))
-leaves_improve words plant plan budget log (Simulating usage plant2 plan2) old new says also is = absurd (no_use words usage plant2 plan2 also.0 (let long = ap length says.1.0 in omega (arith, long)) (λ t. let first = ap first_byte says.1.0 in omega (arith, t, first)))
-leaves_improve words plant plan budget log (Improving plant2 plan2 budget2 None) old new says also is = (let same = ap length (sym says.1.0 ∙ also.1.0) in absurd (omega (arith, same)))
-leaves_improve words plant plan budget log (Improving plant2 plan2 budget2 (Some log2)) old new says also is =
+    → codes "improve" ≡ first_word other → Leaves (Improving plant plan budget (Some log)) old new → Leaves other old new
+leaves_improve words plant plan budget log (Improving plant2 plan2 budget2 None) old new says also same_word is = (let same = ap length (sym says.1.0 ∙ also.1.0) in absurd (omega (arith, same)))
+leaves_improve words plant plan budget log (Improving plant2 plan2 budget2 (Some log2)) old new says also same_word is =
     let same : codes "improve" ∷ plant ∷ plan ∷ says.0 ∷ log ∷ [] ≡ codes "improve" ∷ plant2 ∷ plan2 ∷ also.0 ∷ log2 ∷ [] = sym says.1.0 ∙ also.1.0 in
     let word = λ (k : ℕ). ap (λ (ws : List (List ℕ)). get_or ws k []) same in
     record {
@@ -390,78 +259,24 @@ leaves_improve words plant plan budget log (Improving plant2 plan2 budget2 (Some
       left = subst (λ (l : List ℕ). IsLeft (Improving plant2 plan2 budget2 (Some l)) old new) (word 4)
           (subst (λ (p : List ℕ). IsLeft (Improving plant2 p budget2 (Some log)) old new) (word 2) (subst (λ (p : List ℕ). IsLeft (Improving p plan budget2 (Some log)) old new) (word 1) is.left));
     }
+leaves_improve words plant plan budget log other old new says also same is = (let marks = marks_same same in absurd (omega (arith, marks.0, marks.1.0, marks.1.1)))
 
 -- the words of going on from a log say no other request
 leaves_resume : (words : List (List ℕ)) (plant log : List ℕ) (budget : ℕ) (out : List ℕ) (share : Option (ℕ × ℕ)) (other : Request) (old new : Option FileMap) → Says words (Resuming plant log budget out share) → Says words other
-    → Leaves (Resuming plant log budget out share) old new → Leaves other old new
-leaves_resume words plant log budget out share (Solving plant2 budget2) old new says also is = (let same = ap third_byte (sym says.1.1.0 ∙ also.1.0) in absurd (omega (arith, same)))
-leaves_resume words plant log budget out share (Logging plant2 budget2 log2) old new says also is = (let same = ap third_byte (sym says.1.1.0 ∙ also.1.0) in absurd (omega (arith, same)))
-leaves_resume words plant log budget out share (Checking plant2 log2) old new says also is = (let same = ap third_byte (sym says.1.1.0 ∙ also.0) in absurd (omega (arith, same)))
-leaves_resume words plant log budget out share (Telling plant2 log2) old new says also is = (let same = ap third_byte (sym says.1.1.0 ∙ also.0) in absurd (omega (arith, same)))
-leaves_resume words plant log budget out share (Upgrading plant2) old new says also is = (let same = ap third_byte (sym says.1.1.0 ∙ also.0) in absurd (omega (arith, same)))
-leaves_resume words plant log budget out share (Numbering plant2) old new says also is = (let same = ap third_byte (sym says.1.1.0 ∙ also.0) in absurd (omega (arith, same)))
-leaves_resume words plant log budget out share (Showing seed) old new says also is = (let same = ap third_byte (sym says.1.1.0 ∙ also.1.0) in absurd (omega (arith, same)))
-leaves_resume words plant log budget out share (Replanning plant2 plan2 period2 budget2) old new says also is = (let same = ap third_byte (sym says.1.1.0 ∙ also.1.1.0) in absurd (omega (arith, same)))
-leaves_resume words plant log budget out share (ReplanLogging plant2 plan2 period2 budget2 log2) old new says also is = (let same = ap third_byte (sym says.1.1.0 ∙ also.1.1.0) in absurd (omega (arith, same)))
-leaves_resume words plant log budget out share (CheckingReplan plant2 plan2 period2 log2) old new says also is = (let same = ap third_byte (sym says.1.1.0 ∙ also.1.0) in absurd (omega (arith, same)))
-leaves_resume words plant log budget out share (Improving plant2 plan2 budget2 log2) old new says also is = (let same = ap third_byte (sym says.1.1.0 ∙ also.1.0) in absurd (omega (arith, same)))
-leaves_resume words plant log budget out share (Rolling plant2 plan2 period2 rest2) old new says also is = (let same = ap first_length (sym says.1.1.0 ∙ also.1.0) in absurd (omega (arith, same)))
-leaves_resume words plant log budget out share (Estimating plant2 log2 state step count) old new says also is = (let same = ap third_byte (sym says.1.1.0 ∙ also.1.1.0) in absurd (omega (arith, same)))
-leaves_resume words plant log budget out share (Seeking plant2 budget2) old new says also is = (let same = ap third_byte (sym says.1.1.0 ∙ also.1.0) in absurd (omega (arith, same)))
-leaves_resume words plant log budget out share (Tracing plant2 budget2 stem2) old new says also is = (let same = ap third_byte (sym says.1.1.0 ∙ also.1.0) in absurd (omega (arith, same)))
-leaves_resume words plant log budget out share (Auditing plant2 horizon2 stem2) old new says also is = (let same = ap third_byte (sym says.1.1.0 ∙ also.1.0) in absurd (omega (arith, same)))
-leaves_resume words plant log budget out share (Conflicting plant2 budget2) old new says also is = (let same = ap third_byte (sym says.1.1.0 ∙ also.1.0) in absurd (omega (arith, same)))
-leaves_resume words plant log budget out share (ConflictLogging plant2 budget2 stem2) old new says also is = (let same = ap third_byte (sym says.1.1.0 ∙ also.1.0) in absurd (omega (arith, same)))
-leaves_resume words plant log budget out share (CheckingConflict plant2 stem2) old new says also is = (let same = ap third_byte (sym says.1.1.0 ∙ also.0) in absurd (omega (arith, same)))
-leaves_resume words plant log budget out share (Parting plant2 levels2) old new says also is = (let same = ap third_byte (sym says.1.1.0 ∙ also.1.0) in absurd (omega (arith, same)))
-leaves_resume words plant log budget out share (PartSolving plant2 levels2 part2 budget2 log2) old new says also is = (let same = ap third_byte (sym says.1.1.0 ∙ also.1.1.1.0) in absurd (omega (arith, same)))
-leaves_resume words plant log budget out share (Joining plant2 levels2 stem2 log2) old new says also is = (let same = ap third_byte (sym says.1.1.0 ∙ also.1.0) in absurd (omega (arith, same)))
-leaves_resume words plant log budget out share (Merging plant2 stem2 count2 out2) old new says also is = (let same = ap first_byte (sym says.1.1.0 ∙ also.1.0) in absurd (omega (arith, same)))
-leaves_resume words plant log budget out share (Simulating usage plant2 plan2) old new says also is = absurd (third_use usage (ap third_byte (sym also.0 ∙ says.1.1.0)))
-leaves_resume words plant log budget out share (Resuming plant2 log2 budget2 out2 share2) old new says also is =
+    → codes "resume" ≡ first_word other → Leaves (Resuming plant log budget out share) old new → Leaves other old new
+leaves_resume words plant log budget out share (Resuming plant2 log2 budget2 out2 share2) old new says also same_word is =
     let same : codes "resume" ∷ plant ∷ log ∷ says.0 ∷ out ∷ says.1.0 ≡ codes "resume" ∷ plant2 ∷ log2 ∷ also.0 ∷ out2 ∷ also.1.0 = sym says.1.1.0 ∙ also.1.1.0 in
     let word = λ (k : ℕ). ap (λ (ws : List (List ℕ)). get_or ws k []) same in
     record {
       kept = subst (λ (o : List ℕ). OthersKept (Resuming plant2 log2 budget2 o share2) old new) (word 4) is.kept;
       left = subst (λ (l : List ℕ). IsLeft (Resuming plant2 l budget2 out2 share2) old new) (word 2) (subst (λ (p : List ℕ). IsLeft (Resuming p log budget2 out2 share2) old new) (word 1) is.left);
     }
-
--- that of a command that simulates a plan begins with no m (109)
-merge_use : (usage : PlanUse) → get_or (use_word usage) 0 0 ≢ 109
-merge_use Simulate same = omega (arith, same)
-merge_use Report same = omega (arith, same)
-merge_use Picture same = omega (arith, same)
-merge_use Violations same = omega (arith, same)
-merge_use (Table kind) same = omega (arith, same)
+leaves_resume words plant log budget out share other old new says also same is = (let marks = marks_same same in absurd (omega (arith, marks.0, marks.1.0, marks.1.1)))
 
 -- the words of merging logs say no other request
 leaves_merge : (words : List (List ℕ)) (plant stem : List ℕ) (count : ℕ) (out : List ℕ) (other : Request) (old new : Option FileMap) → Says words (Merging plant stem count out) → Says words other
-    → Leaves (Merging plant stem count out) old new → Leaves other old new
-leaves_merge words plant stem count out (Solving plant2 budget2) old new says also is = (let same = ap first_byte (sym says.1.0 ∙ also.1.0) in absurd (omega (arith, same)))
-leaves_merge words plant stem count out (Logging plant2 budget2 log2) old new says also is = (let same = ap first_byte (sym says.1.0 ∙ also.1.0) in absurd (omega (arith, same)))
-leaves_merge words plant stem count out (Checking plant2 log2) old new says also is = (let same = ap first_byte (sym says.1.0 ∙ also.0) in absurd (omega (arith, same)))
-leaves_merge words plant stem count out (Telling plant2 log2) old new says also is = (let same = ap first_byte (sym says.1.0 ∙ also.0) in absurd (omega (arith, same)))
-leaves_merge words plant stem count out (Upgrading plant2) old new says also is = (let same = ap first_byte (sym says.1.0 ∙ also.0) in absurd (omega (arith, same)))
-leaves_merge words plant stem count out (Numbering plant2) old new says also is = (let same = ap first_byte (sym says.1.0 ∙ also.0) in absurd (omega (arith, same)))
-leaves_merge words plant stem count out (Showing seed) old new says also is = (let same = ap first_byte (sym says.1.0 ∙ also.1.0) in absurd (omega (arith, same)))
-leaves_merge words plant stem count out (Replanning plant2 plan2 period2 budget2) old new says also is = (let same = ap first_byte (sym says.1.0 ∙ also.1.1.0) in absurd (omega (arith, same)))
-leaves_merge words plant stem count out (ReplanLogging plant2 plan2 period2 budget2 log2) old new says also is = (let same = ap first_byte (sym says.1.0 ∙ also.1.1.0) in absurd (omega (arith, same)))
-leaves_merge words plant stem count out (CheckingReplan plant2 plan2 period2 log2) old new says also is = (let same = ap first_byte (sym says.1.0 ∙ also.1.0) in absurd (omega (arith, same)))
-leaves_merge words plant stem count out (Improving plant2 plan2 budget2 log2) old new says also is = (let same = ap first_byte (sym says.1.0 ∙ also.1.0) in absurd (omega (arith, same)))
-leaves_merge words plant stem count out (Rolling plant2 plan2 period2 rest2) old new says also is = (let same = ap first_length (sym says.1.0 ∙ also.1.0) in absurd (omega (arith, same)))
-leaves_merge words plant stem count out (Estimating plant2 log2 state step count2) old new says also is = (let same = ap first_byte (sym says.1.0 ∙ also.1.1.0) in absurd (omega (arith, same)))
-leaves_merge words plant stem count out (Seeking plant2 budget2) old new says also is = (let same = ap first_byte (sym says.1.0 ∙ also.1.0) in absurd (omega (arith, same)))
-leaves_merge words plant stem count out (Tracing plant2 budget2 stem2) old new says also is = (let same = ap first_byte (sym says.1.0 ∙ also.1.0) in absurd (omega (arith, same)))
-leaves_merge words plant stem count out (Auditing plant2 horizon2 stem2) old new says also is = (let same = ap first_byte (sym says.1.0 ∙ also.1.0) in absurd (omega (arith, same)))
-leaves_merge words plant stem count out (Conflicting plant2 budget2) old new says also is = (let same = ap first_byte (sym says.1.0 ∙ also.1.0) in absurd (omega (arith, same)))
-leaves_merge words plant stem count out (ConflictLogging plant2 budget2 stem2) old new says also is = (let same = ap first_byte (sym says.1.0 ∙ also.1.0) in absurd (omega (arith, same)))
-leaves_merge words plant stem count out (CheckingConflict plant2 stem2) old new says also is = (let same = ap first_byte (sym says.1.0 ∙ also.0) in absurd (omega (arith, same)))
-leaves_merge words plant stem count out (Parting plant2 levels2) old new says also is = (let same = ap first_byte (sym says.1.0 ∙ also.1.0) in absurd (omega (arith, same)))
-leaves_merge words plant stem count out (PartSolving plant2 levels2 part2 budget2 log2) old new says also is = (let same = ap first_byte (sym says.1.0 ∙ also.1.1.1.0) in absurd (omega (arith, same)))
-leaves_merge words plant stem count out (Joining plant2 levels2 stem2 log2) old new says also is = (let same = ap first_byte (sym says.1.0 ∙ also.1.0) in absurd (omega (arith, same)))
-leaves_merge words plant stem count out (Simulating usage plant2 plan2) old new says also is = absurd (merge_use usage (ap first_byte (sym also.0 ∙ says.1.0)))
-leaves_merge words plant stem count out (Resuming plant2 log2 budget2 out2 share2) old new says also is = (let same = ap first_byte (sym says.1.0 ∙ also.1.1.0) in absurd (omega (arith, same)))
-leaves_merge words plant stem count out (Merging plant2 stem2 count2 out2) old new says also is =
+    → codes "merge" ≡ first_word other → Leaves (Merging plant stem count out) old new → Leaves other old new
+leaves_merge words plant stem count out (Merging plant2 stem2 count2 out2) old new says also same_word is =
     let same : codes "merge" ∷ plant ∷ stem ∷ says.0 ∷ out ∷ [] ≡ codes "merge" ∷ plant2 ∷ stem2 ∷ also.0 ∷ out2 ∷ [] = sym says.1.0 ∙ also.1.0 in
     let word = λ (k : ℕ). ap (λ (ws : List (List ℕ)). get_or ws k []) same in
     let count_is : count ≡ count2 = same_count also.0 count count2 (subst (λ (w : List ℕ). IsLogCount w count) (word 3) says.1.6) also.1.6 in
@@ -470,35 +285,38 @@ leaves_merge words plant stem count out (Merging plant2 stem2 count2 out2) old n
       left = subst (λ (s : List ℕ). IsLeft (Merging plant2 s count2 out2) old new) (word 2)
           (subst (λ (n : ℕ). IsLeft (Merging plant2 stem n out2) old new) count_is (subst (λ (p : List ℕ). IsLeft (Merging p stem count out2) old new) (word 1) is.left));
     }
+leaves_merge words plant stem count out other old new says also same is = (let marks = marks_same same in absurd (omega (arith, marks.0, marks.1.0, marks.1.1)))
 
 -- what one request leaves that the words say, each leaves that they say
 leaves : (words : List (List ℕ)) (request other : Request) (old new : Option FileMap) → Says words request → Says words other → Leaves request old new → Leaves other old new
-leaves words (Solving plant budget) other old new says also is = leaves_same other old new is.left
-leaves words (Logging plant budget log) other old new says also is = leaves_log words plant budget log other old new says also is
-leaves words (Simulating usage plant plan) other old new says also is = leaves_same other old new is.left
-leaves words (Checking plant log) other old new says also is = leaves_same other old new is.left
-leaves words (Telling plant log) other old new says also is = leaves_same other old new is.left
-leaves words (Upgrading plant) other old new says also is = leaves_same other old new is.left
-leaves words (Numbering plant) other old new says also is = leaves_same other old new is.left
-leaves words (Showing seed) other old new says also is = leaves_same other old new is.left
-leaves words (Replanning plant plan period budget) other old new says also is = leaves_same other old new is.left
-leaves words (ReplanLogging plant plan period budget log) other old new says also is = leaves_replan words plant plan period budget log other old new says also is
-leaves words (CheckingReplan plant plan period log) other old new says also is = leaves_same other old new is.left
-leaves words (Improving plant plan budget None) other old new says also is = leaves_same other old new is.left
-leaves words (Improving plant plan budget (Some log)) other old new says also is = leaves_improve words plant plan budget log other old new says also is
-leaves words (Rolling plant plan period rest) other old new says also is = leaves_same other old new is.left
-leaves words (Estimating plant log state step count) other old new says also is = leaves_same other old new is.left
-leaves words (Seeking plant budget) other old new says also is = leaves_same other old new is.left
-leaves words (Tracing plant budget stem) other old new says also is = leaves_logs words plant budget stem other old new says also is
-leaves words (Auditing plant horizon stem) other old new says also is = leaves_same other old new is.left
-leaves words (Conflicting plant budget) other old new says also is = leaves_same other old new is.left
-leaves words (ConflictLogging plant budget stem) other old new says also is = leaves_conflict words plant budget stem other old new says also is
-leaves words (CheckingConflict plant stem) other old new says also is = leaves_same other old new is.left
-leaves words (Parting plant levels) other old new says also is = leaves_same other old new is.left
-leaves words (PartSolving plant levels part budget log) other old new says also is = leaves_part words plant levels part budget log other old new says also is
-leaves words (Joining plant levels stem log) other old new says also is = leaves_join words plant levels stem log other old new says also is
-leaves words (Resuming plant log budget out share) other old new says also is = leaves_resume words plant log budget out share other old new says also is
-leaves words (Merging plant stem count out) other old new says also is = leaves_merge words plant stem count out other old new says also is
+leaves words (Logging plant budget log) other old new says also is =
+    leaves_log words plant budget log other old new says also
+    (also_first words (codes "solve") other (ap first says.1.0) (let long = ap length says.1.0 in omega (arith, long)) (λ t. let byte = ap first_byte says.1.0 in omega (arith, t, byte)) also) is
+leaves words (ReplanLogging plant plan period budget log) other old new says also is =
+    leaves_replan words plant plan period budget log other old new says also
+    (also_first words (codes "replan") other (ap first says.1.1.0) (let long = ap length says.1.1.0 in omega (arith, long)) (λ t. let byte = ap first_byte says.1.1.0 in omega (arith, t, byte)) also) is
+leaves words (Improving plant plan budget (Some log)) other old new says also is =
+    leaves_improve words plant plan budget log other old new says also
+    (also_first words (codes "improve") other (ap first says.1.0) (let long = ap length says.1.0 in omega (arith, long)) (λ t. let byte = ap first_byte says.1.0 in omega (arith, t, byte)) also) is
+leaves words (Tracing plant budget stem) other old new says also is =
+    leaves_logs words plant budget stem other old new says also
+    (also_first words (codes "least") other (ap first says.1.0) (let long = ap length says.1.0 in omega (arith, long)) (λ t. let byte = ap first_byte says.1.0 in omega (arith, t, byte)) also) is
+leaves words (ConflictLogging plant budget stem) other old new says also is =
+    leaves_conflict words plant budget stem other old new says also
+    (also_first words (codes "conflict") other (ap first says.1.0) (let long = ap length says.1.0 in omega (arith, long)) (λ t. let byte = ap first_byte says.1.0 in omega (arith, t, byte)) also) is
+leaves words (PartSolving plant levels part budget log) other old new says also is =
+    leaves_part words plant levels part budget log other old new says also
+    (also_first words (codes "solve-part") other (ap first says.1.1.1.0) (let long = ap length says.1.1.1.0 in omega (arith, long)) (λ t. let byte = ap first_byte says.1.1.1.0 in omega (arith, t, byte)) also) is
+leaves words (Joining plant levels stem log) other old new says also is =
+    leaves_join words plant levels stem log other old new says also
+    (also_first words (codes "join") other (ap first says.1.0) (let long = ap length says.1.0 in omega (arith, long)) (λ t. let byte = ap first_byte says.1.0 in omega (arith, t, byte)) also) is
+leaves words (Resuming plant log budget out share) other old new says also is =
+    leaves_resume words plant log budget out share other old new says also
+    (also_first words (codes "resume") other (ap first says.1.1.0) (let long = ap length says.1.1.0 in omega (arith, long)) (λ t. let byte = ap first_byte says.1.1.0 in omega (arith, t, byte)) also) is
+leaves words (Merging plant stem count out) other old new says also is =
+    leaves_merge words plant stem count out other old new says also
+    (also_first words (codes "merge") other (ap first says.1.0) (let long = ap length says.1.0 in omega (arith, long)) (λ t. let byte = ap first_byte says.1.0 in omega (arith, t, byte)) also) is
+leaves words request other old new says also is = leaves_same other old new is.left
 
 -- the two facts apart
 pub kept_all : (words : List (List ℕ)) (request : Request) (old new : Option FileMap) → Says words request → OthersKept request old new → IsLeft request old new → (other : Request) → Says words other → OthersKept other old new

@@ -11,16 +11,14 @@ use Rattle.plan_told.specs.Proofs.{bytes_in}
 use Rattle.least_horizon.specs.LogNames.{logs_in, OthersStayBelow}
 use Rattle.time_grid.specs.Slots.{slots}
 use Rattle.log_parts.specs.PartLogs.{AllAreValid}
-use Rattle.command_words.specs.Words.{Request, IsNoPartLog, Solving, Logging, Simulating, Checking, Telling, Numbering, Upgrading, Showing, Replanning, ReplanLogging, CheckingReplan, Rolling, Improving, Estimating, Seeking, Tracing, Auditing, Parting, PartSolving, Joining, Resuming, Merging, log_words, Conflicting, ConflictLogging, CheckingConflict}
+use Rattle.command_words.specs.Words.{Request, IsNoPartLog, Solving, Logging, Printing, Simulating, Telling, Showing, Replanning, ReplanLogging, CheckingReplan, Rolling, Improving, Estimating, Seeking, Tracing, Auditing, Parting, PartSolving, Joining, Resuming, Merging, log_words, Conflicting, ConflictLogging, CheckingConflict}
 use Rattle.command_replies.specs.Answers.{IsAnswerOver, content}
 use Rattle.command_replies.specs.Sources.{IsReadOf, OnPlant, OnPlan}
 use Rattle.answer_texts.specs.Levels.{OnLevels}
 use Rattle.answer_texts.specs.Simulation.{Simulated}
-use Rattle.plan_commands.specs.Upgrading.{Upgraded}
 use Rattle.plan_commands.specs.Rolling.{Rolled}
-use Rattle.log_commands.specs.Checking.{Checked}
-use Rattle.listing_commands.specs.Showing.{PlanShown}
-use Rattle.listing_commands.specs.Numbering.{Numbered}
+use Rattle.listing_commands.specs.Printing.{Printed}
+use Rattle.log_commands.specs.Telling.{LogTold}
 use Rattle.log_commands.specs.CheckingReplan.{ReplanChecked}
 use Rattle.tank_commands.specs.Estimating.{Estimated}
 use Rattle.planning_commands.specs.Solving.{HoldsLog, Solved}
@@ -48,11 +46,9 @@ use Rattle.log_merging.specs.MergedLogs.{AreMergeable}
 abbrev pub read_names : Request → List (List ℕ)
 read_names (Solving plant budget) = plant ∷ []
 read_names (Logging plant budget log) = plant ∷ []
+read_names (Printing usage plant) = plant ∷ []
 read_names (Simulating usage plant plan) = plant ∷ plan ∷ []
-read_names (Checking plant log) = plant ∷ log ∷ []
-read_names (Telling plant log) = plant ∷ log ∷ []
-read_names (Upgrading plant) = plant ∷ []
-read_names (Numbering plant) = plant ∷ []
+read_names (Telling usage plant log) = plant ∷ log ∷ []
 read_names (Showing seed) = []
 read_names (Replanning plant plan period budget) = plant ∷ plan ∷ []
 read_names (ReplanLogging plant plan period budget log) = plant ∷ plan ∷ []
@@ -73,33 +69,18 @@ read_names (Resuming plant log budget out share) = plant ∷ log ∷ out ∷ []
 read_names (Merging plant stem count out) = plant ∷ (merged_names stem count ++ out ∷ [])
 
 -- the names of the files that a request writes: the log of a planning, of a joining or of a merging, or that goes on from another,
--- those of all horizons that a plant may have, or the text of a conflict and its log
+-- those of all horizons that a plant may have, or the text of a conflict and its log; all others only read
 abbrev pub written_names : Request → List (List ℕ)
-written_names (Solving plant budget) = []
 written_names (Logging plant budget log) = log ∷ []
-written_names (Simulating usage plant plan) = []
-written_names (Checking plant log) = []
-written_names (Telling plant log) = []
-written_names (Upgrading plant) = []
-written_names (Numbering plant) = []
-written_names (Showing seed) = []
-written_names (Replanning plant plan period budget) = []
 written_names (ReplanLogging plant plan period budget log) = log ∷ []
-written_names (CheckingReplan plant plan period log) = []
-written_names (Rolling plant plan period rest) = []
 written_names (Improving plant plan budget log) = log_words log
-written_names (Estimating plant log state step count) = []
-written_names (Seeking plant budget) = []
 written_names (Tracing plant budget stem) = log_names stem 337
-written_names (Auditing plant horizon stem) = []
-written_names (Conflicting plant budget) = []
 written_names (ConflictLogging plant budget stem) = log_name stem 0 ∷ log_name stem 1 ∷ []
-written_names (CheckingConflict plant stem) = []
-written_names (Parting plant levels) = []
 written_names (PartSolving plant levels part budget log) = log ∷ []
 written_names (Joining plant levels stem log) = log ∷ []
 written_names (Resuming plant log budget out share) = out ∷ []
 written_names (Merging plant stem count out) = out ∷ []
+written_names _ = []
 
 -- the files that a request reads may be read
 abbrev pub MayRead : (List ℕ → Bool) → Request → Type 0
@@ -119,12 +100,10 @@ OthersKept request old new =
 abbrev pub AnswersTo : Option FileMap → Option FileMap → List (List ℕ) → Request → ℕ → List ℕ → Type 0
 AnswersTo old new contents (Solving plant budget) status text = OnPlant (reading (content contents 0)) (λ p. Solved budget p None) status text
 AnswersTo old new contents (Logging plant budget log) status text = OnPlant (reading (content contents 0)) (λ p. Solved budget p (bytes_in log new)) status text
+AnswersTo old new contents (Printing usage plant) status text = OnPlant (reading (content contents 0)) (Printed usage) status text
 AnswersTo old new contents (Simulating usage plant plan) status text =
     OnPlant (reading (content contents 0)) (λ p. OnPlan (plan_of_text p (content contents 1)) (Simulated usage p)) status text
-AnswersTo old new contents (Checking plant log) status text = OnPlant (reading (content contents 0)) (Checked (bytes_in log old)) status text
-AnswersTo old new contents (Telling plant log) status text = OnPlant (reading (content contents 0)) (PlanShown (bytes_in log old)) status text
-AnswersTo old new contents (Upgrading plant) status text = OnPlant (reading (content contents 0)) Upgraded status text
-AnswersTo old new contents (Numbering plant) status text = OnPlant (reading (content contents 0)) Numbered status text
+AnswersTo old new contents (Telling usage plant log) status text = OnPlant (reading (content contents 0)) (LogTold usage (bytes_in log old)) status text
 AnswersTo old new contents (Showing seed) status text = Shown seed status text
 AnswersTo old new contents (Replanning plant plan period budget) status text =
     OnPlant (reading (content contents 0)) (λ p. OnPlan (plan_of_text p (content contents 1)) (λ starts. Replanned budget p period starts None (new ≡ old))) status text
@@ -159,61 +138,31 @@ IsAnswer old new request status text = IsAnswerOver old new (read_names request)
 
 -- what a request leaves, however it ends: the files as they were, or, where it writes logs, logs in their files
 abbrev pub IsLeft : Request → Option FileMap → Option FileMap → Type 0
-IsLeft (Solving plant budget) old new = new ≡ old
 IsLeft (Logging plant budget log) old new = (new ≡ old) ⊎ HoldsLog old new plant log
-IsLeft (Simulating usage plant plan) old new = new ≡ old
-IsLeft (Checking plant log) old new = new ≡ old
-IsLeft (Telling plant log) old new = new ≡ old
-IsLeft (Upgrading plant) old new = new ≡ old
-IsLeft (Numbering plant) old new = new ≡ old
-IsLeft (Showing seed) old new = new ≡ old
-IsLeft (Replanning plant plan period budget) old new = new ≡ old
 IsLeft (ReplanLogging plant plan period budget log) old new = (new ≡ old) ⊎ HoldsOn old new plant plan (Some period) log
-IsLeft (CheckingReplan plant plan period log) old new = new ≡ old
-IsLeft (Rolling plant plan period rest) old new = new ≡ old
 IsLeft (Improving plant plan budget log) old new = LogLeft log (λ name. (new ≡ old) ⊎ HoldsOn old new plant plan None name) old new
-IsLeft (Estimating plant log state step count) old new = new ≡ old
-IsLeft (Seeking plant budget) old new = new ≡ old
 IsLeft (Tracing plant budget stem) old new = (new ≡ old) ⊎ HoldsLogs budget old new plant stem
-IsLeft (Auditing plant horizon stem) old new = new ≡ old
-IsLeft (Conflicting plant budget) old new = new ≡ old
 IsLeft (ConflictLogging plant budget stem) old new = (new ≡ old) ⊎ HoldsConflict budget old new plant stem
-IsLeft (CheckingConflict plant stem) old new = new ≡ old
-IsLeft (Parting plant levels) old new = new ≡ old
 IsLeft (PartSolving plant levels part budget log) old new = (new ≡ old) ⊎ HoldsPart old new plant levels part log
 IsLeft (Joining plant levels stem log) old new = (new ≡ old) ⊎ HoldsJoined old new plant levels stem log
 IsLeft (Resuming plant log budget out share) old new = (new ≡ old) ⊎ HoldsResumed old new plant log
 IsLeft (Merging plant stem count out) old new = (new ≡ old) ⊎ HoldsMerged old new plant count stem
+IsLeft _ old new = new ≡ old
 
 -- a request gets to writing a file: it names a log, and its plant was read, and its plan where it has one, of which the kept starts
 -- stand together, or which is feasible where none are kept; where it speaks of parts, the plant has a slot for each level, and the logs that it joins or merges are valid
 abbrev pub GetsToWriting : Option FileMap → Request → Type 0
-GetsToWriting files (Solving plant budget) = ⊥
 GetsToWriting files (Logging plant budget log) = (p : Plant) × IsReadOf reading files plant (Ok p)
-GetsToWriting files (Simulating usage plant plan) = ⊥
-GetsToWriting files (Checking plant log) = ⊥
-GetsToWriting files (Telling plant log) = ⊥
-GetsToWriting files (Upgrading plant) = ⊥
-GetsToWriting files (Numbering plant) = ⊥
-GetsToWriting files (Showing seed) = ⊥
-GetsToWriting files (Replanning plant plan period budget) = ⊥
 GetsToWriting files (ReplanLogging plant plan period budget log) = CanBePlanned files plant plan (Some period)
-GetsToWriting files (CheckingReplan plant plan period log) = ⊥
-GetsToWriting files (Rolling plant plan period rest) = ⊥
 GetsToWriting files (Improving plant plan budget log) = (log ≢ None) × CanBePlanned files plant plan None
-GetsToWriting files (Estimating plant log state step count) = ⊥
-GetsToWriting files (Seeking plant budget) = ⊥
 GetsToWriting files (Tracing plant budget stem) = (p : Plant) × IsReadOf reading files plant (Ok p)
-GetsToWriting files (Auditing plant horizon stem) = ⊥
-GetsToWriting files (Conflicting plant budget) = ⊥
 GetsToWriting files (ConflictLogging plant budget stem) = (p : Plant) × IsReadOf reading files plant (Ok p)
-GetsToWriting files (CheckingConflict plant stem) = ⊥
-GetsToWriting files (Parting plant levels) = ⊥
 GetsToWriting files (PartSolving plant levels part budget log) = (p : Plant) × (IsReadOf reading files plant (Ok p) × (levels ≤ length (slots p)))
 GetsToWriting files (Joining plant levels stem log) =
     (p : Plant) × (IsReadOf reading files plant (Ok p) × (levels ≤ length (slots p)) × AllAreValid p levels stem files)
 GetsToWriting files (Resuming plant log budget out share) = (p : Plant) × IsReadOf reading files plant (Ok p)
 GetsToWriting files (Merging plant stem count out) = (p : Plant) × (IsReadOf reading files plant (Ok p) × AreMergeable p count stem files)
+GetsToWriting files _ = ⊥
 
 -- the request reads all of its files before it writes one: it is neither to join or merge logs nor to go on from one
 pub record ReadsFirst (request : Request) : Type 0 where

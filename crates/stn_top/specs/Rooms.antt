@@ -1,7 +1,7 @@
 -- Which commands the calls of a crate answer.
 use Rattle.std.specs.Prelude.{⊤}
 use Rattle.command_words.specs.declared.command.Command.{Command}
-use Rattle.command_words.specs.declared.command.Command.TheVariants.{Solve, Log, SolvePart, Replan, LogReplan, Improve, Least, LeastLogs, CheckLeast, Conflict, ConflictLogs, CheckConflict, Simulate, Upgrade, Roll, Plan, Slots, Check, CheckReplan, Estimate, Parts, Join, Resume, Merge}
+use Rattle.command_words.specs.declared.command.Command.TheVariants.{Solve, Log, SolvePart, Replan, LogReplan, Improve, Least, LeastLogs, CheckLeast, Conflict, ConflictLogs, CheckConflict, Simulate, Roll, Tell, CheckReplan, Estimate, Parts, Join, Resume, Merge}
 
 -- a command plans a plant, or a part of it
 abbrev pub IsPlanning : Command → Type 0
@@ -31,22 +31,15 @@ IsOfConflicts (ConflictLogs plant budget stem) = ⊤
 IsOfConflicts (CheckConflict plant stem) = ⊤
 IsOfConflicts _ = ⊥
 
--- a command simulates a plan, prints the plant, or prints what a plan leaves of it
+-- a command simulates a plan, or prints what it leaves of its plant
 abbrev pub IsOfPlans : Command → Type 0
 IsOfPlans (Simulate usage plant plan) = ⊤
-IsOfPlans (Upgrade plant) = ⊤
 IsOfPlans (Roll plant plan period rest) = ⊤
 IsOfPlans _ = ⊥
 
--- a command prints the plan of a log, or the slots of a plant
-abbrev pub IsListing : Command → Type 0
-IsListing (Plan plant log) = ⊤
-IsListing (Slots plant) = ⊤
-IsListing _ = ⊥
-
 -- a command says what a log shows
 abbrev pub IsOfLogs : Command → Type 0
-IsOfLogs (Check plant log) = ⊤
+IsOfLogs (Tell usage plant log) = ⊤
 IsOfLogs (CheckReplan plant plan period log) = ⊤
 IsOfLogs (Estimate plant log state steps) = ⊤
 IsOfLogs _ = ⊥

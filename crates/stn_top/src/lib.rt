@@ -10,7 +10,7 @@ pub mod top;
 pub use answer_texts::checked;
 pub use command_replies::Reply;
 pub use command_words::{
-    Budget, Command, Levels, MAX_BUDGET, MAX_STEP, MAX_STEPS, Part, Period, PlanUse, Steps,
-    command_of, part_count,
+    Budget, Command, Levels, LogUse, MAX_BUDGET, MAX_STEP, MAX_STEPS, Part, Period, PlanUse,
+    PlantUse, Steps, command_of, part_count,
 };
 pub use top::run;

@@ -5,7 +5,7 @@ ghost use Rattle.command_replies.specs.Sources.{IfReplied};
 ghost use Rattle.demo_commands.specs.Demo.{Shown};
 ghost use Rattle.stn_top.specs.Requests.{MayRead, MayWrite, WritesApart};
 ghost use Rattle.stn_top.specs.Done.{IsDone};
-ghost use Rattle.stn_top.specs.Rooms.{IsPlanning, IsReplanning, IsOfHorizons, IsOfConflicts, IsOfPlans, IsListing, IsOfLogs, IsOfParts, IsResuming};
+ghost use Rattle.stn_top.specs.Rooms.{IsPlanning, IsReplanning, IsOfHorizons, IsOfConflicts, IsOfPlans, IsOfLogs, IsOfParts, IsResuming};
 
 use best_first::BestFirst;
 use command_replies::{Reply, Stopped};
@@ -13,10 +13,9 @@ use command_words::Command;
 use conflict_commands::{check_conflict_file, find_file, find_log_file};
 use demo_commands::show;
 use horizon_commands::{audit_file, seek_file, trace_file};
-use listing_commands::{list_file, show_file};
-use log_commands::{check_file, check_replan_file};
+use log_commands::{check_replan_file, tell_file};
 use part_commands::{join_file, parts_file};
-use plan_commands::{roll_file, simulate_file, upgrade_file};
+use plan_commands::{roll_file, simulate_file};
 use planning_commands::{plan_on_file, solve_file, solve_part_file};
 use resume_commands::{merge_files, resume_file};
 use std::alloc::Global;
@@ -164,7 +163,7 @@ pub(crate) fn conflict_reply<F: Shelf>(
     }
 }
 
-// What a plan comes to, and the plant after it or without one.
+// What a plan comes to, and the plant after it.
 pub(crate) fn plan_reply<F: Shelf>(
     alloc: Global,
     command: Command,
@@ -180,34 +179,12 @@ pub(crate) fn plan_reply<F: Shelf>(
 {
     match command {
         Command::Simulate { usage, plant, plan } => simulate_file(alloc, files, usage, plant, plan),
-        Command::Upgrade { plant } => upgrade_file(alloc, files, plant),
         Command::Roll {
             plant,
             plan,
             period,
             rest,
         } => roll_file(alloc, files, plant, plan, period, rest),
-        _ => unreachable!(),
-    }
-}
-
-// The plan of a log, and the slots of a plant.
-pub(crate) fn listing_reply<F: Shelf>(
-    alloc: Global,
-    command: Command,
-    files: &mut F,
-) -> Result<Reply, Stopped>
-    requires of { IsListing command }
-    requires may_read { MayRead (F.may_read files.old) (meaning command) }
-    ensures done { IsDone (meaning command.entry) (F.files files.old) (F.files files.new)
-        (F.read_faults files.old) (F.read_faults files.new)
-        (F.write_faults files.old) (F.write_faults files.new) result }
-    ensures readable { F.may_read files.new ≡ F.may_read files.old }
-    ensures writable { F.may_write files.new ≡ F.may_write files.old }
-{
-    match command {
-        Command::Plan { plant, log } => show_file(alloc, files, plant, log),
-        Command::Slots { plant } => list_file(alloc, files, plant),
         _ => unreachable!(),
     }
 }
@@ -227,7 +204,7 @@ pub(crate) fn log_reply<F: Shelf>(
     ensures writable { F.may_write files.new ≡ F.may_write files.old }
 {
     match command {
-        Command::Check { plant, log } => check_file(alloc, files, plant, log),
+        Command::Tell { usage, plant, log } => tell_file(alloc, files, usage, plant, log),
         Command::CheckReplan {
             plant,
             plan,

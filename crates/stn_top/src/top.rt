@@ -10,51 +10,19 @@ ghost use Rattle.stn_top.specs.Replies.{IsReply, Answered, IsCutOff, MayReadAll,
 ghost use Rattle.stn_top.specs.Done.{IsDone};
 
 use crate::rooms::{
-    conflict_reply, demonstrate, horizon_reply, listing_reply, log_reply, part_reply, plan_reply,
-    planning_reply, replanning_reply, resume_reply,
+    conflict_reply, demonstrate, horizon_reply, log_reply, part_reply, plan_reply, planning_reply,
+    replanning_reply, resume_reply,
 };
 use command_replies::{Reply, Stopped};
 use command_words::{Command, command_of};
+use listing_commands::print_file;
 use std::alloc::Global;
 use stn_edge::{Shelf, Sink, Stop};
 
 /// Does what the words after the program's name say, and answers with the exit status.
 ///
-/// | Words | What they do |
-/// |---|---|
-/// | `solve PLANT BUDGET` | plans, with at most BUDGET boxes |
-/// | `solve PLANT BUDGET LOG` | plans, and writes the log of the proof; LOG is not the word PLANT |
-/// | `simulate PLANT PLAN` | simulates the plan, and says what it earns or what it breaks first |
-/// | `report PLANT PLAN` | simulates the plan, and shows it or says what it breaks first |
-/// | `picture PLANT PLAN` | simulates the plan, and draws it or says what it breaks first |
-/// | `table PLANT PLAN` | simulates the plan, and prints the table of its batches or says what it breaks first |
-/// | `table PLANT PLAN TABLE` | the same with another table: TABLE is `stocks`, `loads`, `units` or `deliveries` |
-/// | `violations PLANT PLAN` | simulates the plan, and says everything that it breaks, or what it earns |
-/// | `check PLANT LOG` | checks a proof log, and says its claim or its first defect |
-/// | `plan PLANT LOG` | prints the plan that a proof log claims, as a plan file, or the log's first defect |
-/// | `slots PLANT` | prints the slots and the rows of the plant's program by number |
-/// | `upgrade PLANT` | prints the plant as a plant file: of version 3 where it is of version 3, else of version 2 |
-/// | `demo SEED` | makes a plant of the seed, plans it with 500 boxes, and checks the log; no file is touched |
-/// | `replan PLANT PLAN PERIOD BUDGET` | keeps the starts of the plan before the period, and plans what comes after as `solve` does; where one of them does not fit or two meet, says so |
-/// | `replan PLANT PLAN PERIOD BUDGET LOG` | the same, and writes the log of the proof; LOG is neither the word PLANT nor PLAN |
-/// | `improve PLANT PLAN BUDGET` | plans as `solve` does, and begins with the plan, so that the answer earns no less; where the plan is not feasible, says what it breaks first |
-/// | `improve PLANT PLAN BUDGET LOG` | the same, and writes the log of the proof; LOG is neither the word PLANT nor PLAN |
-/// | `roll PLANT PLAN PERIOD` | prints the plant from the period on, where the starts of the plan before it have been carried out, as a plant file of version 3, behind a line on what was earned before; where those starts break something that no later start mends, says what they break first |
-/// | `roll PLANT PLAN PERIOD plan` | the same, but prints the starts of the plan from the period on, as a plan file of that plant |
-/// | `check-replan PLANT PLAN PERIOD LOG` | checks the proof log of such a planning, and says its claim or its first defect |
-/// | `whatif PLANT LOG STATE STEP COUNT` | says by an old log, without a search, what no plan earns more than where the limits of the state are raised by no step, by one, and so on, and what the log's plan then comes to |
-/// | `least PLANT BUDGET` | finds the least horizon within which all deliveries can be met, with at most BUDGET boxes for each |
-/// | `least PLANT BUDGET STEM` | the same, and writes the log of each horizon g that it tries to the file STEM.g; none of STEM.1 to STEM.336 is PLANT |
-/// | `check-least PLANT H STEM` | checks the logs STEM.1, STEM.2 and so on of the horizons below H (1 to 337), and says that none of these has a feasible plan, or what speaks against the first log that doesn't show it |
-/// | `conflict PLANT BUDGET` | finds deliveries that can't be met together, each of which is needed for that, with at most BUDGET boxes for each step |
-/// | `conflict PLANT BUDGET STEM` | the same, and writes the answer to STEM.0 and the log that shows it to STEM.1; neither is PLANT |
-/// | `check-conflict PLANT STEM` | checks such an answer and its log, and says how many deliveries can't be met together, or what speaks against either; neither is PLANT |
-/// | `parts PLANT LEVELS` | prints the parts that LEVELS (1 to 8) cut the plant into, two to the power of LEVELS, and the slots that tell them apart: in each of the first LEVELS slots, a part has a batch or has none |
-/// | `solve-part PLANT LEVELS PART BUDGET LOG` | plans the part of this number as `solve` does, and writes the log of the proof; LOG is not the word PLANT |
-/// | `join PLANT LEVELS STEM LOG` | checks the logs STEM.0, STEM.1 and so on of all parts, and writes the log of the plant that they make up, or says what speaks against the first that is not valid; LOG is neither the word PLANT nor the name of one of these logs |
-/// | `resume PLANT LOG BUDGET OUT` | goes on from a proof log, with at most BUDGET boxes more, and writes the log of that, or says the first defect of LOG; OUT is neither the word PLANT nor LOG |
-/// | `resume PLANT LOG BUDGET OUT SHARE SHARES` | the same, at the open ends alone whose number leaves the rest SHARE when it is divided by SHARES (1 to 256) |
-/// | `merge PLANT STEM COUNT OUT` | checks COUNT logs (1 to 256), STEM.0, STEM.1 and so on, and writes the log that is merged of them, or says what speaks against the first that is not valid; OUT is neither the word PLANT nor the name of one of STEM.0 to STEM.255 |
+/// What each command does is said at its case of `command_words::Command`, and of `PlantUse`, `PlanUse` and `LogUse`; docs/formats.md
+/// has all of them in one table.
 ///
 /// Statuses: 0 optimal, feasible, reported, upgraded, rolled, valid, estimated, listed, joined or merged; 1 no plan is feasible, the plan is not or what is kept of it can't be, or a log is not valid; 2 the words have no
 /// form; 3 the plant file has a fault; 4 the plan file has one; 5 STATE is not the name of a state with limits, the plant has fewer slots than LEVELS, PERIOD is not before the horizon, or a rolled plant would have more than 900 receipts or begin past the year 9999; 6 the budget was spent; 7 a file could not be
@@ -193,11 +161,9 @@ fn reply_to<F: Shelf>(alloc: Global, command: Command, files: &mut F) -> Result<
             horizon_reply(alloc, command, files),
         Command::Conflict { .. } | Command::ConflictLogs { .. } | Command::CheckConflict { .. } =>
             conflict_reply(alloc, command, files),
-        Command::Simulate { .. } | Command::Upgrade { .. } | Command::Roll { .. } => plan_reply(
-            alloc, command, files,
-        ),
-        Command::Plan { .. } | Command::Slots { .. } => listing_reply(alloc, command, files),
-        Command::Check { .. } | Command::CheckReplan { .. } | Command::Estimate { .. } => log_reply(
+        Command::Print { usage, plant } => print_file(alloc, files, usage, plant),
+        Command::Simulate { .. } | Command::Roll { .. } => plan_reply(alloc, command, files),
+        Command::Tell { .. } | Command::CheckReplan { .. } | Command::Estimate { .. } => log_reply(
             alloc, command, files,
         ),
         Command::Parts { .. } | Command::Join { .. } => part_reply(alloc, command, files),

@@ -14,7 +14,7 @@ use Rattle.what_if.specs.declared.old.LogHead.{LogHead}
 use Rattle.what_if.specs.Estimate.{IsEstimate, IsProofCap}
 use Rattle.what_if.specs.OldLogs.{ClaimsPlan, IsValidFor}
 use Rattle.what_if.specs.Raised.{raised}
-use Rattle.command_words.specs.declared.command.PlanUse.TheVariants.{Simulate}
+use Rattle.command_words.specs.declared.uses.PlanUse.TheVariants.{Simulate}
 use Rattle.answer_texts.specs.Checking.{checked_text}
 use Rattle.answer_texts.specs.Simulation.{Simulated}
 

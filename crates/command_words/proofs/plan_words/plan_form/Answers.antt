@@ -5,4 +5,4 @@ use Rattle.command_words.proofs.plan_words.plan_form.Goals as goal
 pub returns : goal.returns
 returns c =
     last_plan_form (texts c.args.words.now) c.rest_of.result
-    c.in_default.ensures c.in_default-simulate_of.ensures c.in_default-simulate_of-2.ensures c.in_default-simulate_of-3.ensures c.in_default-table_of.ensures c.in_default-roll_of.ensures c.rest_of.ensures
+    c.in_default.ensures c.in_default-table_of.ensures c.in_default-roll_of.ensures c.rest_of.ensures

@@ -3,7 +3,7 @@ use Rattle.std.proofs.lemmas.Result.{IfOk-weaker}
 use Rattle.stn_model.specs.Feasible.{Feasible}
 use Rattle.plan_told.specs.Proofs.{HasPlantProof}
 use Rattle.command_words.specs.Words.{named_log}
-use Rattle.command_words.specs.declared.command.PlanUse.TheVariants.{Simulate}
+use Rattle.command_words.specs.declared.uses.PlanUse.TheVariants.{Simulate}
 use Rattle.command_replies.specs.declared.reply.Reply.{Reply}
 use Rattle.answer_texts.specs.Changed.{counted_since}
 use Rattle.answer_texts.specs.Planning.{Planned}

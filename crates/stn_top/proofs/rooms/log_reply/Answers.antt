@@ -1,13 +1,13 @@
 -- Each command's work comes to what its call promises.
-use Rattle.command_words.specs.Words.{Checking, CheckingReplan, Estimating}
+use Rattle.command_words.specs.Words.{Telling, CheckingReplan, Estimating}
 use Rattle.stn_top.proofs.DoneLemmas.{only_read}
 use Rattle.stn_top.proofs.rooms.log_reply.Goals as goal
 
-pub returns-in-Check-clause-done : goal.returns-in-Check-clause-done
-returns-in-Check-clause-done g c =
-    rw c.in-Check.is (only_read (Checking c.in-Check.plant.now c.in-Check.log.now) (g.F.Shelf.files c.args.files.now) (g.F.Shelf.files c.check_file.new.files) (g.F.Shelf.read_faults c.args.files.now) (g.F.Shelf.read_faults c.check_file.new.files)
-    (g.F.Shelf.write_faults c.args.files.now) (g.F.Shelf.write_faults c.check_file.new.files) c.check_file.result
-    c.check_file.ensures.answer c.check_file.ensures.fault c.check_file.ensures.unwritten c.check_file.ensures.kept.same c.check_file.ensures.kept.later c.check_file.ensures.kept.no_write)
+pub returns-in-Tell-clause-done : goal.returns-in-Tell-clause-done
+returns-in-Tell-clause-done g c =
+    rw c.in-Tell.is (only_read (Telling c.in-Tell.usage c.in-Tell.plant.now c.in-Tell.log.now) (g.F.Shelf.files c.args.files.now) (g.F.Shelf.files c.tell_file.new.files) (g.F.Shelf.read_faults c.args.files.now) (g.F.Shelf.read_faults c.tell_file.new.files)
+    (g.F.Shelf.write_faults c.args.files.now) (g.F.Shelf.write_faults c.tell_file.new.files) c.tell_file.result
+    c.tell_file.ensures.answer c.tell_file.ensures.fault c.tell_file.ensures.unwritten c.tell_file.ensures.kept.same c.tell_file.ensures.kept.later c.tell_file.ensures.kept.no_write)
 
 pub returns-in-CheckReplan-clause-done : goal.returns-in-CheckReplan-clause-done
 returns-in-CheckReplan-clause-done g c =

@@ -1,5 +1,5 @@
 -- Each command's work comes to what its call promises.
-use Rattle.command_words.specs.Words.{Simulating, Upgrading, Rolling}
+use Rattle.command_words.specs.Words.{Simulating, Rolling}
 use Rattle.stn_top.proofs.DoneLemmas.{only_read}
 use Rattle.stn_top.proofs.rooms.plan_reply.Goals as goal
 
@@ -14,9 +14,3 @@ returns-in-Roll-clause-done g c =
     rw c.in-Roll.is (only_read (Rolling c.in-Roll.plant.now c.in-Roll.plan.now c.in-Roll.period.number c.in-Roll.rest) (g.F.Shelf.files c.args.files.now) (g.F.Shelf.files c.roll_file.new.files) (g.F.Shelf.read_faults c.args.files.now) (g.F.Shelf.read_faults c.roll_file.new.files)
     (g.F.Shelf.write_faults c.args.files.now) (g.F.Shelf.write_faults c.roll_file.new.files) c.roll_file.result
     c.roll_file.ensures.answer c.roll_file.ensures.fault c.roll_file.ensures.unwritten c.roll_file.ensures.kept.same c.roll_file.ensures.kept.later c.roll_file.ensures.kept.no_write)
-
-pub returns-in-Upgrade-clause-done : goal.returns-in-Upgrade-clause-done
-returns-in-Upgrade-clause-done g c =
-    rw c.in-Upgrade.is (only_read (Upgrading c.in-Upgrade.plant.now) (g.F.Shelf.files c.args.files.now) (g.F.Shelf.files c.upgrade_file.new.files) (g.F.Shelf.read_faults c.args.files.now) (g.F.Shelf.read_faults c.upgrade_file.new.files)
-    (g.F.Shelf.write_faults c.args.files.now) (g.F.Shelf.write_faults c.upgrade_file.new.files) c.upgrade_file.result
-    c.upgrade_file.ensures.answer c.upgrade_file.ensures.fault c.upgrade_file.ensures.unwritten c.upgrade_file.ensures.kept.same c.upgrade_file.ensures.kept.later c.upgrade_file.ensures.kept.no_write)
