@@ -723,7 +723,11 @@ def ran(plant, room):
 
 
 def drawn(plant, room, plan):
-    """The picture of the plan that an example's first command put."""
+    """The picture of the plan that stands beside an example, else of that which its first command put."""
+    kept = os.path.join(TOP, "examples", plant + ".plan")
+    if os.path.exists(kept):
+        with open(kept, "rb") as file:
+            plan = file.read()
     with open(os.path.join(room, "drawn.plan"), "wb") as out:
         out.write(plan)
     words = [PROGRAM, "picture", os.path.join(TOP, "examples", plant + ".toml"), "drawn.plan"]
@@ -731,9 +735,9 @@ def drawn(plant, room, plan):
 
 
 def pictured(plant):
-    """The file of an example's picture where it is of the plan that its command finds: that of five is of a plan by hand."""
+    """The file of an example's picture, if it has one."""
     file = os.path.join(TOP, "examples", plant + ".svg")
-    return file if plant != "five" and os.path.exists(file) else None
+    return file if os.path.exists(file) else None
 
 
 def wrong_example(plant):
