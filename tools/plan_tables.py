@@ -8,6 +8,7 @@ by one. It needs Python 3.11 and nothing else, and is no part of what is proved.
 """
 
 import sys
+from functools import cache
 from pathlib import Path
 
 from plant_program import read_document, read_plant
@@ -57,14 +58,14 @@ class Tables:
         listed = [gap for gap in self.plant.gaps if gap[:3] == (start[0], task, start[2])]
         return max([gap[3] for gap in listed], default=0), max([gap[4] for gap in listed], default=0)
 
+    @cache
     def stock(self, state, time):
-        """What stands at a time, counted up from time 0."""
-        stock = self.plant.states[state].initial
-        for now in range(time + 1):
-            stock += self.outside(self.plant.receipts, state, now) - self.outside(self.plant.deliveries, state, now)
-            for _, period, task, quanta in self.starts:
-                stock -= sum(quanta * amount for of, amount in self.plant.tasks[task].inputs if of == state and period == now)
-                stock += sum(quanta * amount for of, amount, delay in self.plant.tasks[task].outputs if of == state and period + delay == now)
+        """What stands at a time: what stood before it, and what changes then."""
+        stock = self.stock(state, time - 1) if time else self.plant.states[state].initial
+        stock += self.outside(self.plant.receipts, state, time) - self.outside(self.plant.deliveries, state, time)
+        for _, period, task, quanta in self.starts:
+            stock -= sum(quanta * amount for of, amount in self.plant.tasks[task].inputs if of == state and period == time)
+            stock += sum(quanta * amount for of, amount, delay in self.plant.tasks[task].outputs if of == state and period + delay == time)
         return stock
 
     def outside(self, events, state, time):
