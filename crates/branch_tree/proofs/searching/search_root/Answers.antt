@@ -45,5 +45,5 @@ returns g c =
       exact = λ never. root-exact _ _ _ _ _ _ _ _ _ _ _ _ _ _ _ _ root (root-full _ _ _ _ _ _ _ _ _ _ _ _ _ _ _ _ root never);
       full = λ spent. root-exact _ _ _ _ _ _ _ _ _ _ _ _ _ _ _ _ root (λ over. spent);
       err = search rules;
-      faults = search rules;
+      faults = record { later = search rules; failed = search rules };
     }
