@@ -1,11 +1,12 @@
 -- Answers over the contents of files.
-use Rattle.std.specs.Prelude.{◌≡◌, ◌⊎◌, ℕ, List, [], ◌∷◌, map, slice_index_or, Option, IfSome}
+use Rattle.std.specs.Prelude.{◌≡◌, ◌⊎◌, ℕ, List, [], ◌∷◌, map, slice_index_or, Option, Ok, IfSome}
 use Rattle.stn_edge.specs.Files.{FileMap, file_of}
 use Rattle.stn_model.specs.declared.plant.Plant.{Plant}
 use Rattle.stn_model.specs.declared.start.Start.{Start}
 use Rattle.plant_text.specs.Reading.{reading}
 use Rattle.plan_text.specs.PlanText.{plan_of_text}
-use Rattle.command_replies.specs.Sources.{OnPlant, OnPlan}
+use Rattle.command_replies.specs.declared.reply.Reply.{Reply}
+use Rattle.command_replies.specs.Sources.{IsReadOf, OnPlant, OnPlan}
 
 -- the bytes of the file of this number among those that are read
 abbrev pub content : List (List ℕ) → ℕ → List ℕ
@@ -25,6 +26,14 @@ abbrev pub IsPlantAnswer : Option FileMap → Option FileMap → List ℕ → Li
 IsPlantAnswer old new plant others Answers status text =
     IsAnswerOver old new (plant ∷ others) (λ contents. OnPlant (reading (content contents 0)) (Answers contents)) status text
 
+-- the reply is the answer to such a command
+abbrev pub AnswersPlant : Option FileMap → Option FileMap → List ℕ → List (List ℕ) → (List (List ℕ) → Plant → ℕ → List ℕ → Type 0) → Reply → Type 0
+AnswersPlant old new plant others Answers reply = IsPlantAnswer old new plant others Answers reply.status reply.text.items
+
+-- a plant was read of the file of this name
+abbrev pub HasReadPlant : Option FileMap → List ℕ → Type 0
+HasReadPlant files name = (plant : Plant) × IsReadOf reading files name (Ok plant)
+
 -- the answer to a command that reads a plant file and a plan file first, and others
 abbrev pub IsPlanAnswer : Option FileMap → Option FileMap → List ℕ → List ℕ → List (List ℕ) → (Plant → List Start → ℕ → List ℕ → Type 0) → ℕ → List ℕ → Type 0
 IsPlanAnswer old new plant plan others Answers status text =
@@ -33,3 +42,7 @@ IsPlanAnswer old new plant plan others Answers status text =
 -- the statuses of refusals
 abbrev pub IsUnwritten : ℕ → Type 0
 IsUnwritten status = (status ≡ 2) ⊎ ((status ≡ 3) ⊎ ((status ≡ 4) ⊎ (status ≡ 5)))
+
+-- where the reply is a refusal, the files are as before
+abbrev pub LeavesUnwritten : Option FileMap → Option FileMap → Reply → Type 0
+LeavesUnwritten old new reply = IsUnwritten reply.status → new ≡ old

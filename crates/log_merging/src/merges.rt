@@ -5,13 +5,14 @@ ghost use Rattle.stn_edge.specs.Files.{OthersStay, file_of};
 ghost use Rattle.stn_model.specs.Sound.{Sound};
 ghost use Rattle.proof_log.specs.LogNames.{log_name};
 ghost use Rattle.log_parts.specs.PartLogs.{logs_of};
+ghost use Rattle.log_parts.specs.Stops.{Stops, StopsReading};
 ghost use Rattle.valid_log.specs.declared.verdict.LogVerdict.TheVariants.{Yes};
 ghost use Rattle.valid_log.specs.Claims.{SaysOfPlans};
 ghost use Rattle.valid_log.specs.PlantLogs.{IsAnyChecked};
 ghost use Rattle.log_merging.specs.MergedLogs.{AreMergeable, IsMergedLog, IsMergingIn, NamesRefused, LeavesMerge, MergeSays};
 ghost use Rattle.log_merging.specs.laws.Written.{HasWrittenChecked};
 ghost use Rattle.store_frames.specs.Frames.{OnlyReads, ReadsAndWritesOne};
-ghost use Rattle.merge_checks.specs.laws.Checked.{AreCheckedTo, AreKnownTo};
+ghost use Rattle.merge_checks.specs.laws.Checked.{AreCheckedTo, AreKnownTo, CanCheck};
 
 use crate::merged::Merged;
 use crate::writing::write_merged;
@@ -113,10 +114,7 @@ fn merge_logs<F: Shelf>(
         (length logs.fronts.items) (logs_of m stem.now) own (file_of n out.now))))) }
     ensures says { IfOk result (λ claim. IfSome claim (SaysOfPlans plant.now)) }
     ensures frame { ReadsAndWritesOne F.Shelf out.now files.old files.new }
-    ensures read_fault { result ≡ Err JoinStop.ReadFault
-        → Rose (F.read_faults files.old) (F.read_faults files.new) }
-    ensures write_fault { result ≡ Err JoinStop.WriteFault
-        → Rose (F.write_faults files.old) (F.write_faults files.new) }
+    ensures stops { Stops F.Shelf result files.old files.new }
 {
     let order = in_order(alloc, logs.claims.as_slice())?;
     let Logs {
@@ -162,10 +160,7 @@ fn write_checked<F: Shelf>(
         (F.files files.new))) }
     ensures says { IfOk result (λ claim. IfSome claim (SaysOfPlans plant.now)) }
     ensures frame { ReadsAndWritesOne F.Shelf out.now files.old files.new }
-    ensures read_fault { result ≡ Err JoinStop.ReadFault
-        → Rose (F.read_faults files.old) (F.read_faults files.new) }
-    ensures write_fault { result ≡ Err JoinStop.WriteFault
-        → Rose (F.write_faults files.old) (F.write_faults files.new) }
+    ensures stops { Stops F.Shelf result files.old files.new }
 {
     let Claimed { best, settled } = claimed;
     let greatest = cap_of(&best);
@@ -196,9 +191,7 @@ fn stands<F: Shelf>(
         (λ m. IsAnyChecked plant.now (file_of m out.now) (Yes claim.now))) }
     ensures says { IfOk result (λ valid. IsTrue valid → SaysOfPlans plant.now claim.now) }
     ensures frame { OnlyReads F.Shelf files.old files.new }
-    ensures read_fault { result ≡ Err JoinStop.ReadFault
-        → Rose (F.read_faults files.old) (F.read_faults files.new) }
-    ensures no_fault { result ≢ Err JoinStop.WriteFault }
+    ensures stops { StopsReading F.Shelf result files.old files.new }
 {
     match check_stream(alloc, plant, files, out)? {
         LogVerdict::Yes(own) => Ok(is_same_claim(&own, claim)),
@@ -214,18 +207,12 @@ fn look_again<F: Shelf>(
     stem: &str,
     count: u32,
 ) -> Result<Merged, JoinStop>
-    requires sound { Sound plant.now }
-    requires some { 1 ≤ count }
-    requires most { count ≤ 256 }
-    requires may_read { (number : ℕ) → number < count
-        → IsTrue (F.may_read files.old (log_name stem.now number)) }
+    requires can { CanCheck F.Shelf plant.now count stem.now files.old }
     ensures merged { (out : List ℕ) → IfOk result
         (IsMergingIn plant.now count stem.now out (F.files files.old) (F.files files.new)) }
     ensures no { IfOk result NamesRefused }
     ensures frame { OnlyReads F.Shelf files.old files.new }
-    ensures read_fault { result ≡ Err JoinStop.ReadFault
-        → Rose (F.read_faults files.old) (F.read_faults files.new) }
-    ensures no_fault { result ≢ Err JoinStop.WriteFault }
+    ensures stops { StopsReading F.Shelf result files.old files.new }
 {
     let Checked::Bad { number, defect } = check_logs(alloc, plant, files, stem, count)? else {
         return Err(JoinStop::Memory);

@@ -1,8 +1,8 @@
 //! The merged log, written.
-ghost use Rattle.std.specs.Prelude.{◌≡◌, ◌≢◌, ◌<◌, ℕ, All, length, Err, IsTrue, IfOk, IfSome};
-ghost use Rattle.stn_edge.specs.Count.{Rose};
+ghost use Rattle.std.specs.Prelude.{◌≡◌, ◌≢◌, ◌<◌, ℕ, All, length, IsTrue, IfOk, IfSome};
 ghost use Rattle.stn_model.specs.Sound.{Sound};
 ghost use Rattle.proof_log.specs.LogNames.{log_name};
+ghost use Rattle.log_parts.specs.Stops.{Stops};
 ghost use Rattle.log_parts.specs.laws.Copying.{name_of};
 ghost use Rattle.store_frames.specs.Frames.{ReadsAndWritesOne};
 ghost use Rattle.merged_nodes.specs.laws.Looked.{AreApart, AreReading, MayReadAll};
@@ -41,10 +41,7 @@ pub fn write_merged<F: Shelf>(
     ensures written { IfOk result (λ claim. IfSome claim (HasWritten work.entry best
         stem.now out.now (F.files files.old) (F.files files.new))) }
     ensures frame { ReadsAndWritesOne F.Shelf out.now files.old files.new }
-    ensures read_fault { result ≡ Err JoinStop.ReadFault
-        → Rose (F.read_faults files.old) (F.read_faults files.new) }
-    ensures write_fault { result ≡ Err JoinStop.WriteFault
-        → Rose (F.write_faults files.old) (F.write_faults files.new) }
+    ensures stops { Stops F.Shelf result files.old files.new }
 {
     let declared = &work.first.head.declared;
     let merging = Merging {
@@ -81,10 +78,7 @@ fn merge_whole<F: Shelf>(
         sources.old.items writer.old writer.new)) }
     ensures named { name_of writer.new ≡ name_of writer.old }
     ensures frame { ReadsAndWritesOne F.Shelf (name_of writer.old) files.old files.new }
-    ensures read_fault { result ≡ Err JoinStop.ReadFault
-        → Rose (F.read_faults files.old) (F.read_faults files.new) }
-    ensures write_fault { result ≡ Err JoinStop.WriteFault
-        → Rose (F.write_faults files.old) (F.write_faults files.new) }
+    ensures stops { Stops F.Shelf result files.old files.new }
 {
     let mut area = merging.rows.root_area(merging.alloc)?;
     let Some(cap) = merge_node(merging, files, sources, writer, &mut area, 0)? else {

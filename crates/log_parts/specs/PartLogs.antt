@@ -1,5 +1,5 @@
 -- The logs of a plant's parts, and the log that is joined of them.
-use Rattle.std.specs.Prelude.{◌≡◌, ◌⊎◌, ◌↔◌, Bool, true, ℕ, ◌+◌, ◌-◌, ◌^◌, ◌<◌, zero, suc, ⊤, List, [], ◌++◌, length, take, drop, slice_index_or, Option, None, IfSome}
+use Rattle.std.specs.Prelude.{◌≡◌, ◌≢◌, ◌⊎◌, ◌↔◌, Bool, true, IsTrue, ℕ, ◌+◌, ◌-◌, ◌^◌, ◌<◌, zero, suc, ⊤, List, [], ◌++◌, length, take, drop, slice_index_or, Option, None, IfSome}
 use Rattle.stn_edge.specs.Files.{FileMap, file_of}
 use Rattle.stn_model.specs.Points.{depth_limit}
 use Rattle.stn_model.specs.declared.plant.Plant.{Plant}
@@ -100,6 +100,14 @@ IsJoining plant levels logs bytes (No part defect) =
 -- the bytes of the logs of a stem, by their numbers
 abbrev pub logs_of : FileMap → List ℕ → ℕ → List ℕ
 logs_of files stem part = file_of files (log_name stem part)
+
+-- the logs of all parts, 2^levels of a stem, may be read
+abbrev pub MayReadParts : (List ℕ → Bool) → List ℕ → ℕ → Type 0
+MayReadParts may_read stem levels = (part : ℕ) → part < 2 ^ levels → IsTrue (may_read (log_name stem part))
+
+-- a file is none of the logs of the parts
+abbrev pub IsNoPart : List ℕ → List ℕ → ℕ → Type 0
+IsNoPart name stem levels = (part : ℕ) → part < 2 ^ levels → name ≢ log_name stem part
 
 -- what joining comes to is right of the files before and after, where they are told
 abbrev pub IsJoiningIn : Plant → ℕ → List ℕ → List ℕ → Option FileMap → Option FileMap → Joined → Type 0

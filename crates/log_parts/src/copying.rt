@@ -1,9 +1,9 @@
 //! The items of one log after another, put to the joined log.
-ghost use Rattle.std.specs.Prelude.{◌≡◌, ◌≢◌, ◌≤◌, ℕ, List as Items, [], ◌∷◌, ◌++◌, IsTrue, IfOk, OnOk, OnErr, Err};
-ghost use Rattle.stn_edge.specs.Count.{Rose};
+ghost use Rattle.std.specs.Prelude.{◌≡◌, ◌≢◌, ◌≤◌, ℕ, List as Items, [], ◌∷◌, ◌++◌, IsTrue, IfOk, OnOk, OnErr};
 ghost use Rattle.stn_edge.specs.Files.{OthersStay};
 ghost use Rattle.row_relax.specs.RowProofs.{RowItem};
 ghost use Rattle.store_frames.specs.Frames.{ReadsAndWritesOne};
+ghost use Rattle.log_parts.specs.Stops.{Stops, StopsWriting};
 ghost use Rattle.log_parts.specs.laws.Copying.{name_of, HasItems, IsBegun, HasCopied, HasBrokenOff};
 
 use log_lines::{Defect, Limits};
@@ -36,9 +36,7 @@ pub fn put_item<F: Shelf>(
     ensures writable { F.may_write files.new ≡ F.may_write files.old }
     ensures reads { F.read_faults files.new ≡ F.read_faults files.old }
     ensures writes { F.write_faults files.old ≤ F.write_faults files.new }
-    ensures write_fault { result ≡ Err JoinStop.WriteFault
-        → Rose (F.write_faults files.old) (F.write_faults files.new) }
-    ensures no_fault { result ≢ Err JoinStop.ReadFault }
+    ensures stops { StopsWriting F.Shelf result files.old files.new }
 {
     match writer.put(files, item) {
         Ok(()) => Ok(()),
@@ -77,10 +75,7 @@ pub(crate) fn copy_log<F: Shelf>(
     ensures err { OnErr result
         (HasBrokenOff limits head name.now (F.files files.old) writer.old (F.files files.new)) }
     ensures frame { ReadsAndWritesOne F.Shelf (name_of writer.old) files.old files.new }
-    ensures read_fault { result ≡ Err JoinStop.ReadFault
-        → Rose (F.read_faults files.old) (F.read_faults files.new) }
-    ensures write_fault { result ≡ Err JoinStop.WriteFault
-        → Rose (F.write_faults files.old) (F.write_faults files.new) }
+    ensures stops { Stops F.Shelf result files.old files.new }
 {
     let mut reader = LogReader::begin_behind(alloc, limits, NEWEST, head)?;
     'parts: for _ in 0..u64::MAX {

@@ -1,6 +1,5 @@
 //! The joined log, written from the logs of the parts.
-ghost use Rattle.std.specs.Prelude.{◌≡◌, ◌≢◌, ◌≤◌, ◌<◌, suc, ◌+◌, ◌-◌, ◌*◌, ◌^◌, ℕ, List as Items, [], ◌∷◌, ◌++◌, IsTrue, IfOk, OnOk, OnErr, Err, length};
-ghost use Rattle.stn_edge.specs.Count.{Rose};
+ghost use Rattle.std.specs.Prelude.{◌≡◌, ◌≢◌, ◌≤◌, ◌<◌, suc, ◌+◌, ◌-◌, ◌*◌, ◌^◌, ℕ, List as Items, [], ◌∷◌, ◌++◌, IsTrue, IfOk, OnOk, OnErr, length};
 ghost use Rattle.stn_edge.specs.Files.{OthersStay, MayClear};
 ghost use Rattle.stn_model.specs.Sound.{Sound};
 ghost use Rattle.row_relax.specs.RowProofs.{RowItem};
@@ -8,6 +7,8 @@ ghost use Rattle.proof_log.specs.LogNames.{log_name};
 ghost use Rattle.sum_slots.specs.declared.sum.Sum.{Sum};
 ghost use Rattle.store_frames.specs.Frames.{ReadsAndWritesOne, WritesOne};
 ghost use Rattle.log_parts.specs.Heads.{front_text, joined_version};
+ghost use Rattle.log_parts.specs.PartLogs.{IsNoPart, MayReadParts};
+ghost use Rattle.log_parts.specs.Stops.{Stops, StopsWriting};
 ghost use Rattle.log_parts.specs.laws.Copying.{
   IsFit,
   name_of,
@@ -109,9 +110,7 @@ fn open_split<F: Shelf>(
         → HasItems front writer.old (F.files files.old) items
         → IsBegun front (name_of writer.old) (F.files files.new) (items ++ split_items slot)) }
     ensures frame { WritesOne F.Shelf (name_of writer.old) files.old files.new }
-    ensures write_fault { result ≡ Err JoinStop.WriteFault
-        → Rose (F.write_faults files.old) (F.write_faults files.new) }
-    ensures no_fault { result ≢ Err JoinStop.ReadFault }
+    ensures stops { StopsWriting F.Shelf result files.old files.new }
 {
     put_item(writer, files, &Item::Node)?;
     let split = split_at(alloc, slot);
@@ -142,10 +141,7 @@ fn copy_part<F: Shelf>(
         logs.entry.heads.now
         (items_over logs.entry.levels 0 part) (F.files files.old) writer.old (F.files files.new)) }
     ensures frame { ReadsAndWritesOne F.Shelf (name_of writer.old) files.old files.new }
-    ensures read_fault { result ≡ Err JoinStop.ReadFault
-        → Rose (F.read_faults files.old) (F.read_faults files.new) }
-    ensures write_fault { result ≡ Err JoinStop.WriteFault
-        → Rose (F.write_faults files.old) (F.write_faults files.new) }
+    ensures stops { Stops F.Shelf result files.old files.new }
 {
     let name = log_name(alloc, logs.stem, part)?;
     let head = logs.heads[part as usize];
@@ -183,10 +179,9 @@ fn write_tree<F: Shelf>(
     requires heads { length logs.heads.now ≡ 2 ^ logs.levels }
     requires slot { slot ≤ logs.levels }
     requires part { part + 2 ^ (logs.levels - slot) ≤ 2 ^ logs.levels }
-    requires may_read { (p : ℕ) → p < 2 ^ logs.levels
-        → IsTrue (F.may_read files.old (log_name logs.stem.now p)) }
+    requires may_read { MayReadParts (F.may_read files.old) logs.stem.now logs.levels }
     requires may_write { IsTrue (F.may_write files.old (name_of writer.old)) }
-    requires apart { (p : ℕ) → p < 2 ^ logs.levels → name_of writer.old ≢ log_name logs.stem.now p }
+    requires apart { IsNoPart (name_of writer.old) logs.stem.now logs.levels }
     ensures named { name_of writer.new ≡ name_of writer.old }
     ensures joined { IfOk result
         (HasJoined logs.entry.limits (2 ^ logs.entry.levels) logs.entry.stem.now
@@ -199,10 +194,7 @@ fn write_tree<F: Shelf>(
         (items_over slot (logs.entry.levels - slot) part) (F.files files.old) writer.old
         (F.files files.new)) }
     ensures frame { ReadsAndWritesOne F.Shelf (name_of writer.old) files.old files.new }
-    ensures read_fault { result ≡ Err JoinStop.ReadFault
-        → Rose (F.read_faults files.old) (F.read_faults files.new) }
-    ensures write_fault { result ≡ Err JoinStop.WriteFault
-        → Rose (F.write_faults files.old) (F.write_faults files.new) }
+    ensures stops { Stops F.Shelf result files.old files.new }
 {
     if slot == logs.levels {
         return copy_part(alloc, logs, part, writer, files);
@@ -285,9 +277,7 @@ pub fn begin_log<F: Shelf>(
     ensures writable { F.may_write files.new ≡ F.may_write files.old }
     ensures reads { F.read_faults files.new ≡ F.read_faults files.old }
     ensures writes { F.write_faults files.old ≤ F.write_faults files.new }
-    ensures write_fault { result ≡ Err JoinStop.WriteFault
-        → Rose (F.write_faults files.old) (F.write_faults files.new) }
-    ensures no_fault { result ≢ Err JoinStop.ReadFault }
+    ensures stops { StopsWriting F.Shelf result files.old files.new }
 {
     let mut front = Vec::new(alloc);
     put_front(alloc, version, declared, &mut front)?;
@@ -311,9 +301,7 @@ pub fn finish_log<F: Shelf>(writer: LogWriter, files: &mut F, claim: &Claim) -> 
     ensures writable { F.may_write files.new ≡ F.may_write files.old }
     ensures reads { F.read_faults files.new ≡ F.read_faults files.old }
     ensures writes { F.write_faults files.old ≤ F.write_faults files.new }
-    ensures write_fault { result ≡ Err JoinStop.WriteFault
-        → Rose (F.write_faults files.old) (F.write_faults files.new) }
-    ensures no_fault { result ≢ Err JoinStop.ReadFault }
+    ensures stops { StopsWriting F.Shelf result files.old files.new }
 {
     match writer.finish(files, claim) {
         Ok(()) => Ok(()),
@@ -333,11 +321,9 @@ fn write_log<F: Shelf>(
 ) -> Result<Joined, JoinStop>
     requires most { logs.levels ≤ 8 }
     requires heads { length logs.heads.now ≡ 2 ^ logs.levels }
-    requires may_read { (part : ℕ) → part < 2 ^ logs.levels
-        → IsTrue (F.may_read files.old (log_name logs.stem.now part)) }
+    requires may_read { MayReadParts (F.may_read files.old) logs.stem.now logs.levels }
     requires may_write { IsTrue (F.may_write files.old name.now) }
-    requires apart { (part : ℕ) → part < 2 ^ logs.levels
-        → name.now ≢ log_name logs.stem.now part }
+    requires apart { IsNoPart name.now logs.stem.now logs.levels }
     ensures written { IfOk result (HasWritten logs.entry.limits logs.entry.levels
         logs.entry.stem.now logs.entry.heads.now name.now
         (front_text front.entry.version front.entry.declared.now)
@@ -348,10 +334,7 @@ fn write_log<F: Shelf>(
         (front_text front.entry.version front.entry.declared.now)
         larger.now (F.files files.old) (F.files files.new)) }
     ensures frame { ReadsAndWritesOne F.Shelf name.now files.old files.new }
-    ensures read_fault { result ≡ Err JoinStop.ReadFault
-        → Rose (F.read_faults files.old) (F.read_faults files.new) }
-    ensures write_fault { result ≡ Err JoinStop.WriteFault
-        → Rose (F.write_faults files.old) (F.write_faults files.new) }
+    ensures stops { Stops F.Shelf result files.old files.new }
 {
     let mut writer = begin_log(alloc, front.version, front.declared, files, name)?;
     match write_tree(alloc, logs, 0, 0, &mut writer, files)? {
@@ -380,11 +363,9 @@ pub fn write_joined<F: Shelf>(
         front.declared.now }
     requires limits { logs.limits ≡ part_limits plant.now logs.levels front.declared.now }
     requires heads { length logs.heads.now ≡ 2 ^ logs.levels }
-    requires may_read { (part : ℕ) → part < 2 ^ logs.levels
-        → IsTrue (F.may_read files.old (log_name logs.stem.now part)) }
+    requires may_read { MayReadParts (F.may_read files.old) logs.stem.now logs.levels }
     requires may_write { IsTrue (F.may_write files.old name.now) }
-    requires apart { (part : ℕ) → part < 2 ^ logs.levels
-        → name.now ≢ log_name logs.stem.now part }
+    requires apart { IsNoPart name.now logs.stem.now logs.levels }
     ensures written { IfOk result (λ said. IsFit plant.now front.entry.declared.now.sums claim
         → HasWritten (part_limits plant.now logs.entry.levels front.entry.declared.now)
         logs.entry.levels logs.entry.stem.now logs.entry.heads.now name.now
@@ -402,10 +383,7 @@ pub fn write_joined<F: Shelf>(
     ensures writable { F.may_write files.new ≡ F.may_write files.old }
     ensures reads { F.read_faults files.old ≤ F.read_faults files.new }
     ensures writes { F.write_faults files.old ≤ F.write_faults files.new }
-    ensures read_fault { result ≡ Err JoinStop.ReadFault
-        → Rose (F.read_faults files.old) (F.read_faults files.new) }
-    ensures write_fault { result ≡ Err JoinStop.WriteFault
-        → Rose (F.write_faults files.old) (F.write_faults files.new) }
+    ensures stops { Stops F.Shelf result files.old files.new }
 {
     let program = program_of(alloc, plant)?;
     match larger_claim(alloc, &program, front.declared.sums.as_slice(), &claim)? {

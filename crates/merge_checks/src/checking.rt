@@ -1,11 +1,11 @@
 //! The check of the logs that are merged.
-ghost use Rattle.std.specs.Prelude.{◌≡◌, ◌≤◌, ◌<◌, ℕ, Err, IsTrue, IfOk, IfSome, OnOk};
+ghost use Rattle.std.specs.Prelude.{◌≡◌, Err, IsTrue, IfOk, IfSome, OnOk};
 ghost use Rattle.stn_edge.specs.Count.{Rose};
 ghost use Rattle.stn_model.specs.Sound.{Sound};
 ghost use Rattle.proof_log.specs.LogNames.{log_name};
 ghost use Rattle.log_parts.specs.PartLogs.{logs_of};
 ghost use Rattle.store_frames.specs.Frames.{OnlyReads};
-ghost use Rattle.merge_checks.specs.laws.Checked.{AreChecked, AreCheckedTo, AreKnown, AreKnownTo, IsFirstLog, IsKnownCheck, IsLogCheck, IsPushed};
+ghost use Rattle.merge_checks.specs.laws.Checked.{AreCheckedIn, AreCheckedTo, AreKnown, AreKnownTo, CanCheck, IsFirstLog, IsKnownCheck, IsLogCheck, IsPushed};
 
 use crate::checked::{Checked, LogCheck, Logs};
 use log_parts::{LogHead, other_head};
@@ -30,13 +30,8 @@ pub fn check_logs<F: Shelf>(
     stem: &str,
     count: u32,
 ) -> Result<Checked, CheckStop>
-    requires sound { Sound plant.now }
-    requires some { 1 ≤ count }
-    requires most { count ≤ 256 }
-    requires allowed { (number : ℕ) → number < count
-        → IsTrue (F.may_read files.old (log_name stem.now number)) }
-    ensures checked { IfOk result (λ said. IfSome (F.files files.old)
-        (λ m. AreChecked plant.now count (logs_of m stem.now) said)) }
+    requires can { CanCheck F.Shelf plant.now count stem.now files.old }
+    ensures checked { IfOk result (AreCheckedIn plant.now count stem.now (F.files files.old)) }
     ensures known { IfOk result (AreKnown count) }
     ensures read_fault { result ≡ Err CheckStop.Fault
         → Rose (F.read_faults files.old) (F.read_faults files.new) }
@@ -82,16 +77,11 @@ fn check_others<F: Shelf>(
     count: u32,
     first: Logs,
 ) -> Result<Checked, CheckStop>
-    requires sound { Sound plant.now }
-    requires some { 1 ≤ count }
-    requires most { count ≤ 256 }
-    requires allowed { (number : ℕ) → number < count
-        → IsTrue (F.may_read files.old (log_name stem.now number)) }
+    requires can { CanCheck F.Shelf plant.now count stem.now files.old }
     requires first { IfSome (F.files files.old)
         (λ m. AreCheckedTo plant.now 1 (logs_of m stem.now) first) }
     requires known { AreKnownTo 1 first }
-    ensures checked { IfOk result (λ said. IfSome (F.files files.old)
-        (λ m. AreChecked plant.now count (logs_of m stem.now) said)) }
+    ensures checked { IfOk result (AreCheckedIn plant.now count stem.now (F.files files.old)) }
     ensures known { IfOk result (AreKnown count) }
     ensures read_fault { result ≡ Err CheckStop.Fault
         → Rose (F.read_faults files.old) (F.read_faults files.new) }

@@ -1,9 +1,9 @@
 //! The merged proof, written node by node.
-ghost use Rattle.std.specs.Prelude.{◌≡◌, ◌<◌, length, map, Err, IsTrue, IfOk, IfSome};
-ghost use Rattle.stn_edge.specs.Count.{Rose};
+ghost use Rattle.std.specs.Prelude.{◌≡◌, ◌<◌, length, map, IsTrue, IfOk, IfSome};
 ghost use Rattle.row_relax.specs.View.{Fits, view_of};
 ghost use Rattle.log_nodes.specs.laws.Seen.{seen};
 ghost use Rattle.open_splits.specs.laws.Behind.{HasGoneOn};
+ghost use Rattle.log_parts.specs.Stops.{Stops};
 ghost use Rattle.log_parts.specs.laws.Copying.{name_of};
 ghost use Rattle.store_frames.specs.Frames.{ReadsAndWritesOne};
 ghost use Rattle.merged_nodes.specs.laws.Looked.{AreApart, AreReading, MayReadAll};
@@ -45,10 +45,7 @@ pub fn merge_node<F: Shelf>(
         map view_of area.new ≡ map view_of area.old)) }
     ensures named { name_of writer.new ≡ name_of writer.old }
     ensures frame { ReadsAndWritesOne F.Shelf (name_of writer.old) files.old files.new }
-    ensures read_fault { result ≡ Err JoinStop.ReadFault
-        → Rose (F.read_faults files.old) (F.read_faults files.new) }
-    ensures write_fault { result ≡ Err JoinStop.WriteFault
-        → Rose (F.write_faults files.old) (F.write_faults files.new) }
+    ensures stops { Stops F.Shelf result files.old files.new }
 {
     let mark = merging.rows.mark(area);
     let mut splits = Stack::new(merging.alloc);

@@ -1,14 +1,14 @@
 //! One node of the merged proof, written.
-ghost use Rattle.std.specs.Prelude.{◌≡◌, ◌≢◌, List as Items, map, Some, Err, IsTrue, IfOk, IfSome};
-ghost use Rattle.stn_edge.specs.Count.{Rose};
+ghost use Rattle.std.specs.Prelude.{◌≡◌, List as Items, map, Some, IsTrue, IfOk, IfSome};
 ghost use Rattle.row_relax.specs.View.{Fits, view_of};
 ghost use Rattle.log_nodes.specs.laws.Nodes.{node_items};
 ghost use Rattle.log_nodes.specs.laws.Seen.{seen};
+ghost use Rattle.log_parts.specs.Stops.{Stops, StopsWriting};
 ghost use Rattle.log_parts.specs.laws.Copying.{name_of};
 ghost use Rattle.store_frames.specs.Frames.{ReadsAndWritesOne, WritesOne};
 ghost use Rattle.merged_nodes.specs.declared.sources.Source.{Source};
 ghost use Rattle.merge_walk.specs.laws.Closing.{KeepsClosing};
-ghost use Rattle.merge_walk.specs.laws.Opened.{AreSame, HasOpenedSplit, HasWritten};
+ghost use Rattle.merge_walk.specs.laws.Opened.{GoesOnMerging, HasOpenedSplit, HasWritten};
 ghost use Rattle.merged_nodes.specs.laws.Puts.{PutsItems};
 ghost use Rattle.merged_nodes.specs.laws.Looked.{AreApart, AreReading, HasLooked, MayReadAll};
 ghost use Rattle.merge_walk.specs.laws.Walked.{CanMerge};
@@ -42,18 +42,11 @@ pub fn merge_here<F: Shelf>(
         merging.entry.best (map view_of area.old) (map view_of area.new) (F.files files.old)
         (F.files files.new) merging.entry.stem.now depth sources.old.items sources.new.items
         writer.old writer.new)) }
-    ensures same { IfOk result (λ written. IfSome written (λ _.
-        AreSame sources.old.items sources.new.items)) }
-    ensures reading { IfOk result (λ written. IfSome written (λ _.
-        AreReading (F.files files.new) merging.entry.stem.now sources.new.items)) }
-    ensures fits { IfOk result (λ written. IfSome written (λ _.
-        Fits merging.entry.rows.now.program (seen area.new))) }
+    ensures on { IfOk result (λ written. IfSome written (λ _. GoesOnMerging merging.entry
+        (F.files files.new) sources.old.items sources.new.items area.new)) }
     ensures named { name_of writer.new ≡ name_of writer.old }
     ensures frame { ReadsAndWritesOne F.Shelf (name_of writer.old) files.old files.new }
-    ensures read_fault { result ≡ Err JoinStop.ReadFault
-        → Rose (F.read_faults files.old) (F.read_faults files.new) }
-    ensures write_fault { result ≡ Err JoinStop.WriteFault
-        → Rose (F.write_faults files.old) (F.write_faults files.new) }
+    ensures stops { Stops F.Shelf result files.old files.new }
 {
     if depth >= MOST_NODES {
         return Ok(None);
@@ -81,18 +74,11 @@ fn merge_looked<F: Shelf>(
         (HasWritten merging.entry.rows.now merging.entry.best (map view_of area.old)
         (map view_of area.new) (F.files files.old) (F.files files.new) merging.entry.stem.now
         depth before sources.new.items writer.old writer.new)) }
-    ensures same { IfOk result (λ written. IfSome written (λ _.
-        AreSame sources.old.items sources.new.items)) }
-    ensures reading { IfOk result (λ written. IfSome written (λ _.
-        AreReading (F.files files.new) merging.entry.stem.now sources.new.items)) }
-    ensures fits { IfOk result (λ written. IfSome written (λ _.
-        Fits merging.entry.rows.now.program (seen area.new))) }
+    ensures on { IfOk result (λ written. IfSome written (λ _. GoesOnMerging merging.entry
+        (F.files files.new) sources.old.items sources.new.items area.new)) }
     ensures named { name_of writer.new ≡ name_of writer.old }
     ensures frame { ReadsAndWritesOne F.Shelf (name_of writer.old) files.old files.new }
-    ensures read_fault { result ≡ Err JoinStop.ReadFault
-        → Rose (F.read_faults files.old) (F.read_faults files.new) }
-    ensures write_fault { result ≡ Err JoinStop.WriteFault
-        → Rose (F.write_faults files.old) (F.write_faults files.new) }
+    ensures stops { Stops F.Shelf result files.old files.new }
 {
     let Looked { end, split } = looked;
     let Some(split) = split else {
@@ -128,9 +114,7 @@ fn write_end<F: Shelf>(
         (node_items end.node)) }
     ensures named { name_of writer.new ≡ name_of writer.old }
     ensures frame { WritesOne F.Shelf (name_of writer.old) files.old files.new }
-    ensures write_fault { result ≡ Err JoinStop.WriteFault
-        → Rose (F.write_faults files.old) (F.write_faults files.new) }
-    ensures no_fault { result ≢ Err JoinStop.ReadFault }
+    ensures stops { StopsWriting F.Shelf result files.old files.new }
 {
     let cap = end.cap;
     put_end(writer, files, end)?;
@@ -172,9 +156,7 @@ fn open_split<F: Shelf>(
         Fits merging.entry.rows.now.program (seen area.new))) }
     ensures named { name_of writer.new ≡ name_of writer.old }
     ensures frame { WritesOne F.Shelf (name_of writer.old) files.old files.new }
-    ensures write_fault { result ≡ Err JoinStop.WriteFault
-        → Rose (F.write_faults files.old) (F.write_faults files.new) }
-    ensures no_fault { result ≢ Err JoinStop.ReadFault }
+    ensures stops { StopsWriting F.Shelf result files.old files.new }
 {
     let Node { cuts, found, end } = node;
     if !cut_down(merging.rows, area, cuts.as_slice()) {

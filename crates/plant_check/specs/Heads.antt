@@ -2,11 +2,14 @@
 use Rattle.std.specs.Prelude.{◌≡◌, ◌^◌, ◌<◌, ◌≤◌, ⊤, ℕ, Option, List, [], length, slice_index, Result}
 use Rattle.std.specs.Result.{MatchResult}
 use Rattle.stn_model.specs.declared.plant.Plant.{Plant}
+use Rattle.stn_model.specs.Sound.{Sound}
 use Rattle.log_lines.specs.declared.defect.Defect.{Defect}
 use Rattle.log_lines.specs.declared.grammar.Limits.{Limits}
 use Rattle.row_kit.specs.declared.domain.Domain.{Domain}
 use Rattle.row_kit.specs.declared.program.Program.{Program}
 use Rattle.row_relax.specs.declared.rows.Rows.{Rows}
+use Rattle.row_set.specs.Parts.{IsPartOf}
+use Rattle.sum_slots.specs.Shown.{AreRanges}
 use Rattle.sum_lines.specs.declared.head.Head.{Head}
 use Rattle.sum_lines.specs.Head.{AreKept, IsHeadVersion}
 use Rattle.setup_lines.specs.declared.setups.SetupFront.{SetupFront}
@@ -22,6 +25,13 @@ use Rattle.derivation_lines.specs.declared.tail.TailFront.{TailFront}
 use Rattle.derivation_lines.specs.declared.tail.TailFront.TheVariants.{Whole, Bad}
 use Rattle.derivation_lines.specs.Tail.{IsTailKept}
 use Rattle.valid_log.specs.Heads.{HasHeadDefect, IsWithHead, limits_with, setup_sizes}
+use Rattle.plant_check.specs.declared.check.CheckedPart.{CheckedPart}
+
+-- a log is checked over a part of a sound plant's choices, and its head over domains in which the points of the part lie
+pub record IsPartOver (checked : CheckedPart) (judged : List Domain) : Type 0 where
+  pub sound : Sound checked.plant.now
+  pub part : IsPartOf checked.plant.now checked.program
+  pub ranges : AreRanges checked.program judged
 
 -- the sums of a head keep the limits of a program, and the setups behind them those of it with the sums, which then are the setups' limits; in version 3 there are no setups
 pub record IsHeadHeld (plant : Plant) (program : Program) (depth : ℕ) (setups : Setups) : Type 0 where

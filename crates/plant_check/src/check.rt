@@ -15,7 +15,7 @@ ghost use Rattle.valid_log.specs.Claims.{YesSaysOf};
 ghost use Rattle.valid_log.specs.Verdict.{IsVerdict};
 ghost use Rattle.valid_log.specs.Heads.{judged_over, limits_with};
 ghost use Rattle.valid_log.specs.AnyVersion.{IsAnyVerdict, IsHeadVerdict, IsSetUpVerdict, IsTailVerdict, unshown_defect};
-ghost use Rattle.plant_check.specs.Heads.{IsHeadHeld, IsTailHeld};
+ghost use Rattle.plant_check.specs.Heads.{IsHeadHeld, IsPartOver, IsTailHeld};
 ghost use Rattle.store_frames.specs.Frames.{OnlyReads};
 
 use crate::given::{given_verdict, in_file};
@@ -132,9 +132,7 @@ fn check_headed<F: Shelf>(
     files: &mut F,
     name: &str,
 ) -> Result<LogVerdict, CheckStop>
-    requires sound { Sound part.plant.now }
-    requires part { IsPartOf part.plant.now part.program }
-    requires ranges { AreRanges part.program judged.now }
+    requires over { IsPartOver part judged.now }
     requires kept { IsKeptHead (limits_with part.program part.depth 0) head }
     requires allowed { IsTrue (F.may_read files.old name.now) }
     ensures verdict { IfOk result (λ verdict. IfSome (F.files files.old)
@@ -161,9 +159,7 @@ fn check_set_up<F: Shelf>(
     files: &mut F,
     name: &str,
 ) -> Result<LogVerdict, CheckStop>
-    requires sound { Sound part.plant.now }
-    requires part { IsPartOf part.plant.now part.program }
-    requires ranges { AreRanges part.program judged.now }
+    requires over { IsPartOver part judged.now }
     requires held { IsHeadHeld part.plant.now part.program part.depth setups.now }
     requires allowed { IsTrue (F.may_read files.old name.now) }
     ensures verdict { IfOk result (λ verdict. IfSome (F.files files.old)
@@ -190,9 +186,7 @@ fn check_tailed<F: Shelf>(
     files: &mut F,
     name: &str,
 ) -> Result<LogVerdict, CheckStop>
-    requires sound { Sound part.plant.now }
-    requires part { IsPartOf part.plant.now part.program }
-    requires ranges { AreRanges part.program judged.now }
+    requires over { IsPartOver part judged.now }
     requires held { IsHeadHeld part.plant.now part.program part.depth setups.now }
     requires tailed { IsTailHeld setups.now.limits setups.now.head tail.now }
     requires allowed { IsTrue (F.may_read files.old name.now) }

@@ -1,6 +1,7 @@
 -- The logs of all parts, checked.
-use Rattle.std.specs.Prelude.{◌≡◌, ◌≢◌, ◌⊎◌, ◌↔◌, Bool, true, ℕ, ◌+◌, ◌*◌, ◌-◌, ◌^◌, ◌<◌, ⊤, List, [], ◌++◌, length, slice_index_or}
+use Rattle.std.specs.Prelude.{◌≡◌, ◌≢◌, ◌⊎◌, ◌↔◌, Bool, true, ℕ, ◌+◌, ◌*◌, ◌-◌, ◌^◌, ◌<◌, ⊤, List, [], ◌++◌, length, slice_index_or, Option, IfSome}
 use Rattle.std.specs.List.{range_with_len}
+use Rattle.stn_edge.specs.Files.{FileMap}
 use Rattle.stn_model.specs.Points.{depth_limit}
 use Rattle.stn_model.specs.declared.plant.Plant.{Plant}
 use Rattle.time_grid.specs.Slots.{slots}
@@ -40,7 +41,7 @@ use Rattle.log_parts.specs.declared.heads.LogHead.{LogHead}
 use Rattle.log_parts.specs.Heads.{HasNewest, front_text, joined_version, lines_on}
 use Rattle.log_parts.specs.Joining.{EachSays}
 use Rattle.log_parts.specs.OtherHeads.{IsOtherHead}
-use Rattle.log_parts.specs.PartLogs.{AreValid, IsPartVerdict, IsRefused}
+use Rattle.log_parts.specs.PartLogs.{AreValid, IsPartVerdict, IsRefused, logs_of}
 use Rattle.plant_parts.specs.PlantParts.{IsOfPart, IsPartProgram}
 
 -- ---- limits
@@ -223,6 +224,10 @@ abbrev pub AreChecked : Plant → ℕ → (ℕ → List ℕ) → Checked → Typ
 AreChecked plant levels logs (All newest declared limits heads claims) = HaveClaims plant levels logs declared heads.items claims.items × AreNewest logs (2 ^ levels) newest
 AreChecked plant levels logs (Bad part defect) =
     (part < 2 ^ levels) × ((declared : Declared) × (AreValid plant levels logs declared part × IsRefused plant levels part (logs part) declared defect))
+
+-- the same of the logs of a stem, where the files are told
+abbrev pub AreCheckedIn : Plant → ℕ → List ℕ → Option FileMap → Checked → Type 0
+AreCheckedIn plant levels stem files said = IfSome files (λ m. AreChecked plant levels (logs_of m stem) said)
 
 -- there is a claim for each part, which holds of the part's plans, and a count of bytes, the joined log can declare what they do, and the limits are those of what stands behind
 pub record AllSaySo (plant : Plant) (levels : ℕ) (newest : Bool) (declared : Declared) (limits : Limits) (heads : List ℕ) (claims : List Claim) : Type 0 where

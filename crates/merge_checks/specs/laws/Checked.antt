@@ -1,13 +1,18 @@
 -- The logs that are merged, as they were checked. Only clauses of what merges cite it.
-use Rattle.std.specs.Prelude.{◌≡◌, ◌⊎◌, ◌↔◌, ◌<◌, ℕ, true, ⊤, IsTrue, List, [], ◌∷◌, ◌++◌, length, slice_get, slice_index_or, Some}
+use Rattle.std.specs.Prelude.{◌≡◌, ◌⊎◌, ◌↔◌, ◌≤◌, ◌<◌, ℕ, true, ⊤, IsTrue, List, [], ◌∷◌, ◌++◌, length, slice_get, slice_index_or, Option, Some, IfSome}
+use Rattle.stn_edge.specs.Files.{FileMap}
+use Rattle.stn_edge.specs.declared.shelf.Shelf.{Ghosts}
 use Rattle.stn_model.specs.declared.plant.Plant.{Plant}
+use Rattle.stn_model.specs.Sound.{Sound}
 use Rattle.proof_log.specs.declared.claim.Claim.{Claim}
 use Rattle.proof_log.specs.declared.claim.Claim.TheVariants.{Infeasible}
+use Rattle.proof_log.specs.LogNames.{log_name}
 use Rattle.valid_log.specs.declared.verdict.LogVerdict.TheVariants as verdict
 use Rattle.valid_log.specs.PlantLogs.{IsAnyChecked}
 use Rattle.log_parts.specs.declared.heads.Declared.{Declared}
 use Rattle.log_parts.specs.declared.heads.LogHead.{LogHead}
 use Rattle.log_parts.specs.Heads.{HasNewest, lines_on}
+use Rattle.log_parts.specs.PartLogs.{logs_of}
 use Rattle.opened_logs.specs.declared.opened.Opened.{Opened}
 use Rattle.opened_logs.specs.Opened.{IsOpened, front_of}
 use Rattle.opened_logs.specs.Claims.{IsOpenClaim}
@@ -17,6 +22,13 @@ use Rattle.merge_checks.specs.declared.checked.LogCheck.{LogCheck}
 use Rattle.merge_checks.specs.declared.checked.LogCheck.TheVariants.{Valid, Bad as BadLog}
 use Rattle.merge_checks.specs.declared.checked.Logs.{Logs}
 use Rattle.merge_checks.specs.CheckedLogs.{AreValidTo, IsRefusedToMerge}
+
+-- the logs of a stem, so many, 1 to 256, may be checked for a sound plant: all of them may be read
+pub record CanCheck {F : Type 0} (S : Ghosts F) (plant : Plant) (count : ℕ) (stem : List ℕ) (files : F) : Type 0 where
+  pub sound : Sound plant
+  pub some : 1 ≤ count
+  pub most : count ≤ 256
+  pub allowed : (number : ℕ) → number < count → IsTrue (S.may_read files (log_name stem number))
 
 -- the check of a log is right of its bytes
 abbrev pub IsLogCheck : Plant → List ℕ → LogCheck → Type 0
@@ -54,6 +66,10 @@ abbrev pub AreChecked : Plant → ℕ → (ℕ → List ℕ) → Checked → Typ
 AreChecked plant count bytes (AllValid logs) = AreCheckedTo plant count bytes logs
 AreChecked plant count bytes (Bad number defect) =
     (number < count) × ((declared : Declared) × (AreValidTo plant bytes declared number × IsRefusedToMerge plant number (bytes number) declared defect))
+
+-- the same of the logs of a stem, where the files are told
+abbrev pub AreCheckedIn : Plant → ℕ → List ℕ → Option FileMap → Checked → Type 0
+AreCheckedIn plant count stem files said = IfSome files (λ m. AreChecked plant count (logs_of m stem) said)
 
 -- what is known of so many logs that are all valid
 abbrev pub AreKnown : ℕ → Checked → Type 0

@@ -1,23 +1,34 @@
 -- The walk that merges the proofs of several logs. Only clauses of what merges cite it.
 use Rattle.std.specs.Prelude.{◌≡◌, ◌<◌, ℕ, ℤ, List, length, get_or, Option}
 use Rattle.stn_edge.specs.Files.{FileMap, OthersStay}
+use Rattle.row_kit.specs.declared.domain.Domain.{Domain}
 use Rattle.proof_log.specs.declared.writer.LogWriter.{LogWriter}
 use Rattle.proof_tree.specs.declared.capped.Capped.{Capped}
 use Rattle.proof_tree.specs.Cap.{floor_cap, greater}
 use Rattle.proof_tree.specs.Views.{View, present}
 use Rattle.row_relax.specs.declared.rows.Rows.{Rows}
+use Rattle.row_relax.specs.View.{Fits}
 use Rattle.log_nodes.specs.declared.node.Node.{Node}
+use Rattle.log_nodes.specs.laws.Seen.{seen}
 use Rattle.open_splits.specs.declared.splits.OpenSplit.{OpenSplit}
 use Rattle.open_splits.specs.declared.way.Met.{Met}
 use Rattle.open_splits.specs.laws.Behind.{Course, HasMet, HasSplit, Reaches}
 use Rattle.log_parts.specs.laws.Copying.{name_of}
+use Rattle.merged_nodes.specs.declared.sources.Merging.{Merging}
 use Rattle.merged_nodes.specs.declared.sources.Source.{Source}
+use Rattle.merged_nodes.specs.laws.Looked.{AreReading}
 use Rattle.merge_walk.specs.laws.Walked.{HasMerged, HasMergedSplit}
 
 -- the same logs at the same places, whatever was read of them
 pub record AreSame (before after : List Source) : Type 0 where
   pub as_many : length after ≡ length before
   pub each : (place : ℕ) (d : Source) → place < length before → (get_or after place d).number ≡ (get_or before place d).number
+
+-- the walk can go on: the same logs are read on at the same places, and the area fits the rows
+pub record GoesOnMerging (merging : Merging) (told : Option FileMap) (before after : List Source) (marks : List (List Domain)) : Type 0 where
+  pub same : AreSame before after
+  pub reading : AreReading told merging.stem.now after
+  pub fits : Fits merging.rows.now.program (seen marks)
 
 -- how far logs were read and a proof was written
 pub record Reached : Type 0 where

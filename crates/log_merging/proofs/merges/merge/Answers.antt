@@ -1,5 +1,5 @@
 -- The logs are checked and merged; where one shows something else meanwhile, all are checked anew.
-use Rattle.std.proofs.Common.{◌≡◌, ℕ, Bool, List, Option, inr, length, subst, sym, arith}
+use Rattle.std.proofs.Common.{◌≡◌, ◌∙◌, ◌<◌, ℕ, Bool, List, Option, inr, length, subst, sym, arith}
 use Rattle.std.specs.Prelude.{IfSome, IsTrue}
 use Rattle.stn_edge.specs.Files.{FileMap, OthersStay, file_of}
 use Rattle.proof_log.specs.declared.claim.Claim.{Claim}
@@ -10,6 +10,9 @@ use Rattle.log_merging.specs.MergedLogs.{IsMergedLog, IsMergingIn, NamesRefused}
 use Rattle.merge_checks.specs.laws.Checked.{AreChecked, AreCheckedTo, AreKnown, AreKnownTo}
 use Rattle.log_merging.proofs.Mergings.{looked-again, mergeable, ok_then}
 use Rattle.log_merging.proofs.merges.merge.Goals as goal
+
+pub check_logs-requires : goal.check_logs-requires
+check_logs-requires g c = record { can = record { sound = c.requires.sound; some = c.requires.some; most = c.requires.most; allowed = c.requires.may_read } }
 
 pub merge_logs-requires-clause-few : goal.merge_logs-requires-clause-few
 merge_logs-requires-clause-few g c =
@@ -41,6 +44,16 @@ merge_logs-requires-clause-checked g c =
     let own = subst (λ (said : Checked). IfSome old (λ m. AreChecked c.args.plant.now c.args.count (logs_of m c.args.stem.now) said)) c.in-All.is c.in_ok-logs.ensures.checked in
     subst (λ (n : ℕ). IfSome (g.F.Shelf.files c.check_logs.new.files) (λ m. AreCheckedTo c.args.plant.now n (logs_of m c.args.stem.now) c.in-All.logs)) (sym known.fronts)
     (subst (λ (told : Option FileMap). IfSome told (λ m. AreCheckedTo c.args.plant.now c.args.count (logs_of m c.args.stem.now) c.in-All.logs)) (sym c.in_ok-logs.ensures.frame.same) own)
+
+pub look_again-requires : goal.look_again-requires
+look_again-requires g c = record {
+  can = record {
+    sound = c.requires.sound;
+    some = c.requires.some;
+    most = c.requires.most;
+    allowed = subst (λ (may : List ℕ → Bool). (number : ℕ) → number < c.args.count → IsTrue (may (log_name c.args.stem.now number))) (sym (c.in_ok-claim.ensures.frame.readable ∙ c.in_ok-logs.ensures.frame.readable)) c.requires.may_read;
+  };
+}
 
 pub returns-in_err-claim-clause-left : goal.returns-in_err-claim-clause-left
 returns-in_err-claim-clause-left g c =

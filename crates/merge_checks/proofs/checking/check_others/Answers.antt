@@ -43,10 +43,10 @@ loop-number-preserved g c =
 
 pub returns-clause-checked : goal.returns-clause-checked
 returns-clause-checked g c =
-    let last : c.loop-number.number ≡ c.args.count = omega (arith, c.loop-number-test.false, c.requires.some) in
+    let last : c.loop-number.number ≡ c.args.count = omega (arith, c.loop-number-test.false, c.requires.can.some) in
     subst (λ (n : ℕ). IfSome (g.F.Shelf.files c.args.files.now) (λ m. AreCheckedTo c.args.plant.now n (logs_of m c.args.stem.now) c.loop-number.logs)) last c.loop-number.invariant.checked
 
 pub returns-clause-known : goal.returns-clause-known
 returns-clause-known g c =
-    let last : c.loop-number.number ≡ c.args.count = omega (arith, c.loop-number-test.false, c.requires.some) in
+    let last : c.loop-number.number ≡ c.args.count = omega (arith, c.loop-number-test.false, c.requires.can.some) in
     subst (λ (n : ℕ). AreKnownTo n c.loop-number.logs) last c.loop-number.invariant.known

@@ -14,7 +14,7 @@ use Rattle.open_splits.specs.laws.Opened.{StandsIn}
 use Rattle.open_splits.proofs.Standing.{at-some}
 use Rattle.open_splits.proofs.Steps.{IsAt, gone-smaller, met-smaller}
 use Rattle.log_parts.specs.laws.Copying.{name_of}
-use Rattle.merge_walk.specs.laws.Opened.{Reached, merging_walk}
+use Rattle.merge_walk.specs.laws.Opened.{GoesOnMerging, Reached, merging_walk}
 use Rattle.merge_walk.proofs.Steps.{Begun, gone-further, node-written, walk-up, walk_of, whole_of}
 use Rattle.merge_walk.proofs.merging.merge_node.Goals as goal
 
@@ -49,7 +49,8 @@ pub steps-preserved-in-Some-End : goal.steps-preserved-in-Some-End
 steps-preserved-in-Some-End g c =
     let said = c.in_ok-merge_here-in-Down.ensures in
     let is = c.in-Some-End.is ∙ ap Some c.in-Some-End.field-0-is in
-    node-written c.in-Down.below (End c.in-Some-End.cap) c.steps.invariant c.in-Down.is (at-some _ is said.same) said.frame said.named (at-some _ is said.reading) (at-some _ is said.fits) (at-some _ is said.written) (refl, refl)
+    let on : GoesOnMerging c.args.merging (g.F.Shelf.files c.merge_here.new.files) c.steps.sources.items c.merge_here.new.sources.items c.merge_here.new.area = at-some _ is said.on in
+    node-written c.in-Down.below (End c.in-Some-End.cap) c.steps.invariant c.in-Down.is on.same said.frame said.named on.reading on.fits (at-some _ is said.written) (refl, refl)
 
 pub steps-smaller-in-Some-Split : goal.steps-smaller-in-Some-Split
 steps-smaller-in-Some-Split g c =
@@ -66,7 +67,8 @@ pub steps-preserved-in-Some-Split : goal.steps-preserved-in-Some-Split
 steps-preserved-in-Some-Split g c =
     let said = c.in_ok-merge_here-in-Down.ensures in
     let is = c.in-Some-Split.is ∙ ap Some c.in-Some-Split.field-0-is in
-    node-written c.in-Down.below (Split c.in-Some-Split.split) c.steps.invariant c.in-Down.is (at-some _ is said.same) said.frame said.named (at-some _ is said.reading) (at-some _ is said.fits) (at-some _ is said.written) (c.in_ok-push-in-Some-Split.ensures.ok, refl)
+    let on : GoesOnMerging c.args.merging (g.F.Shelf.files c.merge_here.new.files) c.steps.sources.items c.merge_here.new.sources.items c.merge_here.new.area = at-some _ is said.on in
+    node-written c.in-Down.below (Split c.in-Some-Split.split) c.steps.invariant c.in-Down.is on.same said.frame said.named on.reading on.fits (at-some _ is said.written) (c.in_ok-push-in-Some-Split.ensures.ok, refl)
 
 -- ---- up
 

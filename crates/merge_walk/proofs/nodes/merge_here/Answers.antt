@@ -10,7 +10,7 @@ use Rattle.log_parts.specs.laws.Copying.{name_of}
 use Rattle.merged_nodes.specs.declared.looking.Looked.{Looked}
 use Rattle.merged_nodes.specs.laws.Looked.{AreApart, AreReading, HasLooked, MayReadAll}
 use Rattle.log_parts.proofs.Frames.{also-writes, both-then}
-use Rattle.merge_walk.specs.laws.Opened.{AreSame, HasWritten}
+use Rattle.merge_walk.specs.laws.Opened.{GoesOnMerging, HasWritten}
 use Rattle.merge_walk.proofs.KeptLogs.{same-apart, same-may-read, same-stood, same-then}
 use Rattle.merge_walk.proofs.nodes.merge_here.Goals as goal
 
@@ -60,15 +60,21 @@ returns-clause-written g c =
     (subst (λ (files : Option FileMap). IfOk c.merge_looked.result (λ written. IfSome written (HasWritten rows best (map view_of c.look.new.area) narrow files new' stem depth before after writer later))) look.frame.same
     (c.merge_looked.ensures.written before own))
 
-pub returns-clause-same : goal.returns-clause-same
-returns-clause-same g c =
+pub returns-clause-on : goal.returns-clause-on
+returns-clause-on g c =
     let told = g.F.Shelf.files c.args.files.now in
     let before = c.args.sources.now.items in
     let middle = c.look.new.sources.items in
     let after = c.merge_looked.new.sources.items in
+    let new' = g.F.Shelf.files c.merge_looked.new.files in
+    let area = c.merge_looked.new.area in
     let has = subst (λ (o : Option Looked). IfSome o (HasLooked c.args.merging.rows.now (seen c.args.area.now) told c.args.merging.stem.now c.args.depth before middle)) c.in-Some.is c.in_ok-looked.ensures.looked in
-    ok_some_then c.merge_looked.result (λ _. AreSame middle after) (λ _. AreSame before after)
-    (λ written same. same-then before middle after (same-stood told c.args.merging.stem.now c.args.depth before middle has.stands has.stood) same) c.merge_looked.ensures.same
+    ok_some_then c.merge_looked.result (λ _. GoesOnMerging c.args.merging new' middle after area) (λ _. GoesOnMerging c.args.merging new' before after area)
+    (λ written on. record {
+      same = same-then before middle after (same-stood told c.args.merging.stem.now c.args.depth before middle has.stands has.stood) on.same;
+      reading = on.reading;
+      fits = on.fits;
+    }) c.merge_looked.ensures.on
 
 pub returns-clause-frame : goal.returns-clause-frame
 returns-clause-frame g c =

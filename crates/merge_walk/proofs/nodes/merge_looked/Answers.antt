@@ -13,7 +13,7 @@ use Rattle.log_parts.specs.laws.Copying.{name_of}
 use Rattle.merged_nodes.specs.laws.Looked.{AreReading}
 use Rattle.merged_nodes.specs.laws.Puts.{PutsItems}
 use Rattle.log_parts.proofs.Frames.{also-reads, also-writes, both-then}
-use Rattle.merge_walk.specs.laws.Opened.{AreSame, HasOpenedSplit, HasWritten, Merges}
+use Rattle.merge_walk.specs.laws.Opened.{GoesOnMerging, HasOpenedSplit, HasWritten, Merges}
 use Rattle.merge_walk.specs.laws.Walked.{HasMergedSplit}
 use Rattle.merge_walk.proofs.KeptLogs.{readings-stay, same-apart, same-none, same-passed}
 use Rattle.merge_walk.proofs.MergedNodes.{closed-merged, end-merged, split-merged}
@@ -37,19 +37,16 @@ returns-in-Some-end-clause-written g c = λ before has.
     end-answer c.write_end.result (End end.cap) (PutsItems writer told later new' (node_items end.node)) (HasWritten rows best views views told new' stem c.args.depth before after writer later) c.write_end.ensures.put
     (λ put. (take-length views, (c.write_end.ensures.frame.others, end-merged rows best (seen c.args.area.now) told new' stem c.args.depth before after writer later c.args.looked end has (none-there c.args.looked.split c.in_default.not-Some) c.in-Some-end.is put)))
 
-pub returns-in-Some-end-clause-same : goal.returns-in-Some-end-clause-same
-returns-in-Some-end-clause-same g c = answer-always c.write_end.result (AreSame c.args.sources.now.items c.args.sources.now.items) (same-none c.args.sources.now.items)
-
-pub returns-in-Some-end-clause-reading : goal.returns-in-Some-end-clause-reading
-returns-in-Some-end-clause-reading g c =
-    let stem = c.args.merging.stem.now in
+pub returns-in-Some-end-clause-on : goal.returns-in-Some-end-clause-on
+returns-in-Some-end-clause-on g c =
     let sources = c.args.sources.now.items in
     let new' = g.F.Shelf.files c.write_end.new.files in
-    answer-always c.write_end.result (AreReading new' stem sources)
-    (readings-stay (name_of c.args.writer.now) stem sources (g.F.Shelf.files c.args.files.now) new' c.write_end.ensures.frame.others c.requires.can.apart c.requires.can.reading)
-
-pub returns-in-Some-end-clause-fits : goal.returns-in-Some-end-clause-fits
-returns-in-Some-end-clause-fits g c = answer-always c.write_end.result (Fits c.args.merging.rows.now.program (seen c.args.area.now)) c.requires.can.fits
+    answer-always c.write_end.result (GoesOnMerging c.args.merging new' sources sources c.args.area.now)
+    (record {
+      same = same-none sources;
+      reading = readings-stay (name_of c.args.writer.now) c.args.merging.stem.now sources (g.F.Shelf.files c.args.files.now) new' c.write_end.ensures.frame.others c.requires.can.apart c.requires.can.reading;
+      fits = c.requires.can.fits;
+    })
 
 pub returns-in-Some-end-clause-frame : goal.returns-in-Some-end-clause-frame
 returns-in-Some-end-clause-frame g c = also-reads g.F.Shelf (name_of c.args.writer.now) c.args.files.now c.write_end.new.files c.write_end.ensures.frame
@@ -83,15 +80,8 @@ returns-then-branch-clause-written g c = λ before has.
       ),
     ))
 
-pub returns-then-branch-clause-same : goal.returns-then-branch-clause-same
-returns-then-branch-clause-same g c =
-    let before = c.args.sources.now.items in
-    let after = c.pass_below.new.sources.items in
-    answer-always c.write_end-then-branch.result (AreSame before after)
-    (same-passed (g.F.Shelf.files c.args.files.now) c.args.merging.stem.now c.in-Some.split.end c.args.depth before after (c.in_ok-pass_below-in-Some-closing.ensures.passed c.if-branch.true))
-
-pub returns-then-branch-clause-reading : goal.returns-then-branch-clause-reading
-returns-then-branch-clause-reading g c =
+pub returns-then-branch-clause-on : goal.returns-then-branch-clause-on
+returns-then-branch-clause-on g c =
     let stem = c.args.merging.stem.now in
     let told = g.F.Shelf.files c.args.files.now in
     let now = g.F.Shelf.files c.pass_below.new.files in
@@ -102,10 +92,12 @@ returns-then-branch-clause-reading g c =
     let pass = c.in_ok-pass_below-in-Some-closing.ensures in
     let same = same-passed told stem c.in-Some.split.end c.args.depth before after (pass.passed c.if-branch.true) in
     let reading : AreReading now stem after = subst (λ (files : Option FileMap). AreReading files stem after) (sym pass.frame.same) (pass.reading c.if-branch.true) in
-    answer-always c.write_end-then-branch.result (AreReading new' stem after) (readings-stay out stem after now new' c.write_end-then-branch.ensures.frame.others (same-apart out out stem before after refl same c.requires.can.apart) reading)
-
-pub returns-then-branch-clause-fits : goal.returns-then-branch-clause-fits
-returns-then-branch-clause-fits g c = answer-always c.write_end-then-branch.result (Fits c.args.merging.rows.now.program (seen c.args.area.now)) c.requires.can.fits
+    answer-always c.write_end-then-branch.result (GoesOnMerging c.args.merging new' before after c.args.area.now)
+    (record {
+      same = same;
+      reading = readings-stay out stem after now new' c.write_end-then-branch.ensures.frame.others (same-apart out out stem before after refl same c.requires.can.apart) reading;
+      fits = c.requires.can.fits;
+    })
 
 pub returns-then-branch-clause-frame : goal.returns-then-branch-clause-frame
 returns-then-branch-clause-frame g c =
@@ -135,8 +127,12 @@ returns-in-Some-2-clause-written g c = λ before has.
     (Merges rows best stem (name_of writer) depth view (record { told = told; sources = before; writer = writer }))
     (λ last cap parts. (parts.0, split-merged rows best view told last.told stem depth before middle last.sources writer last.writer c.args.looked node cap has c.in-Some.is c.in-None-closing.ensures parts.1)) opened
 
-pub returns-in-Some-2-clause-reading : goal.returns-in-Some-2-clause-reading
-returns-in-Some-2-clause-reading g c =
-    let stem = c.args.merging.stem.now in
+pub returns-in-Some-2-clause-on : goal.returns-in-Some-2-clause-on
+returns-in-Some-2-clause-on g c =
+    let rows = c.args.merging.rows.now in
     let sources = c.args.sources.now.items in
-    readings-stay (name_of c.args.writer.now) stem sources (g.F.Shelf.files c.args.files.now) (g.F.Shelf.files c.open_split.new.files) c.in_ok-split-in-None-closing.ensures.frame.others c.requires.can.apart c.requires.can.reading
+    record {
+      same = same-none sources;
+      reading = readings-stay (name_of c.args.writer.now) c.args.merging.stem.now sources (g.F.Shelf.files c.args.files.now) (g.F.Shelf.files c.open_split.new.files) c.in_ok-split-in-None-closing.ensures.frame.others c.requires.can.apart c.requires.can.reading;
+      fits = subst (λ (o : Option (OpenSplit (Option ℤ) Capped)). IfSome o (λ _. Fits rows.program (seen c.open_split.new.area))) c.in-Some-2.is c.in_ok-split-in-None-closing.ensures.fits;
+    }

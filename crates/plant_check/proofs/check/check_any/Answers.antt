@@ -11,6 +11,13 @@ use Rattle.valid_log.specs.Verdict.{IsVerdict}
 use Rattle.plant_check.proofs.ShownVerdicts.{any_plain}
 use Rattle.plant_check.proofs.check.check_any.Goals as goal
 
+pub check_headed-requires-clause-over : goal.check_headed-requires-clause-over
+check_headed-requires-clause-over g c = record {
+  sound = c.requires.sound;
+  part = c.requires.part;
+  ranges = c.judged_over-judged.ensures.ranges c.args.part.program c.requires.ranges c.requires.root;
+}
+
 pub returns-in-Plain-clause-verdict : goal.returns-in-Plain-clause-verdict
 returns-in-Plain-clause-verdict g c =
     let program = c.args.part.program in

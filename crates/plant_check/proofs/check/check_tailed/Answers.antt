@@ -24,8 +24,8 @@ returns-in_ok-own-in-Ok-clause-says g c =
     let plant = c.args.part.plant.now in
     let setups = c.args.setups.now in
     let tail = c.args.tail.now in
-    shown_says plant c.args.part.program c.args.judged.now c.args.part.depth setups tail c.in-Ok.rows c.in_ok-own-in-Ok.own c.len-slots.result c.given_verdict.result c.len-slots.ensures c.requires.sound c.requires.part
-    c.requires.ranges c.requires.held (subst (IsJudged plant c.args.part.program c.args.judged.now setups tail) c.in-Ok.is c.in_ok-rows.ensures) c.in_ok-own-in-Ok.ensures.holds c.given_verdict.ensures.verdict
+    shown_says plant c.args.part.program c.args.judged.now c.args.part.depth setups tail c.in-Ok.rows c.in_ok-own-in-Ok.own c.len-slots.result c.given_verdict.result c.len-slots.ensures c.requires.over.sound c.requires.over.part
+    c.requires.over.ranges c.requires.held (subst (IsJudged plant c.args.part.program c.args.judged.now setups tail) c.in-Ok.is c.in_ok-rows.ensures) c.in_ok-own-in-Ok.ensures.holds c.given_verdict.ensures.verdict
 
 pub returns-in-Err-clause-says : goal.returns-in-Err-clause-says
 returns-in-Err-clause-says g c = c.check_text.ensures.says c.args.part.plant.now c.args.part.program
