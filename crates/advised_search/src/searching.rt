@@ -5,7 +5,7 @@ ghost use Rattle.proof_tree.specs.Tree.{tree_of};
 ghost use Rattle.branch_tree.specs.Searched.{ended_of};
 ghost use Rattle.branch_tree.specs.SearchRequest.{BeganFor, CanSearch, IsExactFor, IsSearchFor, WasBrokenOff, WasSearched};
 
-use box_advice::Advisers;
+use box_advice::{Advisers, Sought};
 use branch_tree::{
     Ended, Guided, SearchRequest, Searched, search, search_guided, search_guided_to, search_to,
 };
@@ -18,14 +18,7 @@ fn advised<A: Advisers>(
     alloc: Global,
     sought: &SearchRequest,
 ) -> Result<(A::Guide, A::Hinter), AllocError> {
-    A::advised(
-        alloc,
-        &sought.rows.program,
-        choices_of(sought.rows),
-        sought.rules.given,
-        sought.budget,
-        sought.start,
-    )
+    A::advised(alloc, &asked_for(sought), sought.budget)
 }
 
 // The guide and the hinter of a search, of which the guide leaves none open.
@@ -33,13 +26,17 @@ fn hinted<A: Advisers>(
     alloc: Global,
     sought: &SearchRequest,
 ) -> Result<(A::Guide, A::Hinter), AllocError> {
-    A::hinted(
-        alloc,
-        &sought.rows.program,
-        choices_of(sought.rows),
-        sought.rules.given,
-        sought.start,
-    )
+    A::hinted(alloc, &asked_for(sought))
+}
+
+// What the advisers of a search are made for.
+fn asked_for<'a>(sought: &SearchRequest<'a>) -> Sought<'a> {
+    Sought {
+        program: &sought.rows.program,
+        choices: choices_of(sought.rows),
+        given: sought.rules.given,
+        start: sought.start,
+    }
 }
 
 /// Searches the root with the advice of both advisers, as `branch_tree::search_guided_to` does. The guide may leave boxes open

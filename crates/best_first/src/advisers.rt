@@ -7,7 +7,7 @@ ghost use Rattle.row_kit.specs.Domain.{IsOpen};
 use crate::explorer::{Explored, explore, explore_on};
 use crate::kept_guide::KeptGuide;
 use crate::kept_hinter::KeptHinter;
-use box_advice::{Advice, Advisers, Guide, Hinter};
+use box_advice::{Advice, Advisers, Asked, Guide, Hinter, Sought};
 use derivations::Derivation;
 use end_advice::{EndAdvisers, EndGuide, OpenEnd};
 use explored_tree::{Lead, Tree};
@@ -61,49 +61,46 @@ impl Advisers for BestFirst {
 
     fn advised(
         alloc: Global,
-        program: &Program,
-        choices: &Program,
-        given: u32,
+        sought: &Sought,
         budget: u32,
-        start: &[u8],
     ) -> Result<(SearchGuide, SearchHinter), AllocError> {
-        if has_many(program, 0) {
-            return explored(alloc, program, choices, given, budget, start);
+        if has_many(sought.program, 0) {
+            return explored(alloc, sought, budget);
         }
-        let points = numbered(choices.root.len());
-        let guide = PlanGuide::new(alloc, program, given, points)?;
-        let hinter = PlanHinter::new(alloc, program, given, points, start)?;
-        Ok((SearchGuide::Depth(guide), SearchHinter::Depth(hinter)))
+        let points = numbered(sought.choices.root.len());
+        let guide = PlanGuide::new(alloc, sought.program, sought.given, points)?;
+        Ok((SearchGuide::Depth(guide), hinter_of(alloc, sought)?))
     }
 
-    fn hinted(
-        alloc: Global,
-        program: &Program,
-        choices: &Program,
-        given: u32,
-        start: &[u8],
-    ) -> Result<(SearchGuide, SearchHinter), AllocError> {
-        let points = numbered(choices.root.len());
-        let hinter = PlanHinter::new(alloc, program, given, points, start)?;
-        Ok((SearchGuide::Plain(PlainGuide), SearchHinter::Depth(hinter)))
+    fn hinted(alloc: Global, sought: &Sought) -> Result<(SearchGuide, SearchHinter), AllocError> {
+        Ok((SearchGuide::Plain(PlainGuide), hinter_of(alloc, sought)?))
     }
+}
+
+// The hinter of a search that looks for plans as it goes on.
+fn hinter_of(alloc: Global, sought: &Sought) -> Result<SearchHinter, AllocError> {
+    let points = numbered(sought.choices.root.len());
+    let hinter = PlanHinter::new(alloc, sought.program, sought.given, points, sought.start)?;
+    Ok(SearchHinter::Depth(hinter))
 }
 
 // The advisers of a search that is explored first.
 fn explored(
     alloc: Global,
-    program: &Program,
-    choices: &Program,
-    given: u32,
+    sought: &Sought,
     budget: u32,
-    start: &[u8],
 ) -> Result<(SearchGuide, SearchHinter), AllocError> {
-    let Explored { tree, best } = explore(alloc, program, choices, given, budget, start)?;
-    let lead = Lead::new(alloc, program, tree.nodes, best.worth, budget)?;
-    let points = numbered(choices.root.len());
-    let guide = KeptGuide::new(alloc, program, given, points, lead)?;
+    let Explored { tree, best } = explore(alloc, sought, budget)?;
+    let lead = Lead::new(alloc, sought.program, tree.nodes, best.worth, budget)?;
+    let guide = kept_guide(alloc, sought, lead)?;
     let hinter = KeptHinter::new(best);
     Ok((SearchGuide::Best(guide), SearchHinter::Best(hinter)))
+}
+
+// The guide that leads a search through boxes.
+fn kept_guide(alloc: Global, sought: &Sought, lead: Lead) -> Result<KeptGuide, AllocError> {
+    let points = numbered(sought.choices.root.len());
+    KeptGuide::new(alloc, sought.program, sought.given, points, lead)
 }
 
 impl EndAdvisers for BestFirst {
@@ -113,33 +110,22 @@ impl EndAdvisers for BestFirst {
 
     fn resumed(
         alloc: Global,
-        program: &Program,
-        choices: &Program,
-        given: u32,
+        sought: &Sought,
         budget: u32,
         ends: Vec<OpenEnd>,
-        start: &[u8],
     ) -> Result<(SearchGuide, SearchHinter, Vec<u8>), AllocError> {
         let roots = numbered(ends.len());
-        let tree = tree_of(alloc, program, ends)?;
-        let Explored { tree, best } = explore_on(
-            alloc, program, choices, given, budget, tree, start,
-        )?;
-        let lead = Lead::over(alloc, program, tree.nodes, roots, best.worth, budget)?;
-        let points = numbered(choices.root.len());
-        let guide = KeptGuide::new(alloc, program, given, points, lead)?;
+        let tree = tree_of(alloc, sought.program, ends)?;
+        let Explored { tree, best } = explore_on(alloc, sought, budget, tree)?;
+        let lead = Lead::over(alloc, sought.program, tree.nodes, roots, best.worth, budget)?;
+        let guide = kept_guide(alloc, sought, lead)?;
         let plan = values_of(alloc, &best)?;
         let hinter = KeptHinter::new(best);
         Ok((SearchGuide::Best(guide), SearchHinter::Best(hinter), plan))
     }
 
-    fn in_order(
-        alloc: Global,
-        program: &Program,
-        choices: &Program,
-        given: u32,
-    ) -> Result<(SearchGuide, SearchHinter), AllocError> {
-        <BestFirst as Advisers>::hinted(alloc, program, choices, given, &[])
+    fn in_order(alloc: Global, sought: &Sought) -> Result<(SearchGuide, SearchHinter), AllocError> {
+        <BestFirst as Advisers>::hinted(alloc, sought)
     }
 }
 
@@ -174,19 +160,11 @@ impl Guide for SearchGuide {
         }
     }
 
-    fn advise(
-        &mut self,
-        alloc: Global,
-        program: &Program,
-        area: &Area,
-        depth: u32,
-        best: Option<i128>,
-        point: &mut [u8],
-    ) -> Result<Advice, AllocError> {
+    fn advise(&mut self, asked: &Asked, point: &mut [u8]) -> Result<Advice, AllocError> {
         match self {
-            SearchGuide::Depth(guide) => guide.advise(alloc, program, area, depth, best, point),
-            SearchGuide::Best(guide) => guide.advise(alloc, program, area, depth, best, point),
-            SearchGuide::Plain(guide) => guide.advise(alloc, program, area, depth, best, point),
+            SearchGuide::Depth(guide) => guide.advise(asked, point),
+            SearchGuide::Best(guide) => guide.advise(asked, point),
+            SearchGuide::Plain(guide) => guide.advise(asked, point),
         }
     }
 }

@@ -7,7 +7,7 @@ ghost use Rattle.range_prop.specs.Index.{IsIndex};
 
 use crate::aims::Aims;
 use crate::starts::Starts;
-use box_advice::{Advice, Hinter};
+use box_advice::{Advice, Hinter, Sought};
 use dual_simplex::Basis;
 use explored_tree::{Tree, cap_of, exceeds};
 use plan_hints::PlanHinter;
@@ -51,36 +51,25 @@ const SELDOM: u32 = 32;
 // How many boxes are explored at most for each that may be counted.
 const MOST_LOOKS: u32 = 4;
 
-/// Searches a program best first, until the tree that is left counts so many boxes, or is closed. Points are judged by `choices`, and
-/// plans are looked for from the point `start` on. Four times as many boxes are explored at most, and none once what is held comes
+/// Searches a program best first, until the tree that is left counts so many boxes, or is closed. Four times as many boxes are explored at most, and none once what is held comes
 /// to some 2 GiB. Where that comes no further, trees of their own are explored towards worths that no plan has yet (`Aims`).
-pub fn explore(
-    alloc: Global,
-    program: &Program,
-    choices: &Program,
-    given: u32,
-    budget: u32,
-    start: &[u8],
-) -> Result<Explored, AllocError> {
-    let tree = Tree::new(alloc, program)?;
-    let explorer = Explorer::new(alloc, program, choices, given, tree, start, 0)?;
-    explorer.explored(program, budget)
+pub fn explore(alloc: Global, sought: &Sought, budget: u32) -> Result<Explored, AllocError> {
+    let tree = Tree::new(alloc, sought.program)?;
+    let explorer = Explorer::new(alloc, sought, tree, 0)?;
+    explorer.explored(sought.program, budget)
 }
 
-/// Searches on from the boxes of a tree that are still to be explored, in the same way. Plans are looked for from the point `start` on;
-/// where there is one, as at later boxes alone.
+/// Searches on from the boxes of a tree that are still to be explored, in the same way. Where a point is known to look for plans from,
+/// they are looked for as at later boxes alone.
 pub fn explore_on(
     alloc: Global,
-    program: &Program,
-    choices: &Program,
-    given: u32,
+    sought: &Sought,
     budget: u32,
     tree: Tree,
-    start: &[u8],
 ) -> Result<Explored, AllocError> {
     let ends = numbered(tree.nodes.len());
-    let explorer = Explorer::new(alloc, program, choices, given, tree, start, ends)?;
-    explorer.explored(program, budget)
+    let explorer = Explorer::new(alloc, sought, tree, ends)?;
+    explorer.explored(sought.program, budget)
 }
 
 // Lets go of a value of whatever type: so no function is proved with all parts of what it lets go.
@@ -91,13 +80,16 @@ impl<'a> Explorer<'a> {
     // little is let go where memory is wanting.
     fn new(
         alloc: Global,
-        program: &Program,
-        choices: &'a Program,
-        given: u32,
+        sought: &Sought<'a>,
         tree: Tree,
-        start: &[u8],
         ends: u32,
     ) -> Result<Explorer<'a>, AllocError> {
+        let Sought {
+            program,
+            choices,
+            given,
+            start,
+        } = *sought;
         let points = numbered(choices.root.len());
         let best = Kept::new(alloc, choices)?;
         let guide = PlanGuide::new(alloc, program, given, points)?;

@@ -4,7 +4,7 @@ ghost use Rattle.std.specs.List.{All};
 ghost use Rattle.row_kit.specs.Area.{present};
 ghost use Rattle.row_kit.specs.Domain.{IsOpen};
 
-use box_advice::{Advice, Guide};
+use box_advice::{Advice, Asked, Guide};
 use explored_tree::{Lead, cap_of, exceeds};
 use row_kit::{Area, Program};
 use split_advice::PlanGuide;
@@ -43,21 +43,13 @@ impl Guide for KeptGuide {
         self.lead.leaves(area, depth)
     }
 
-    fn advise(
-        &mut self,
-        alloc: Global,
-        program: &Program,
-        area: &Area,
-        depth: u32,
-        best: Option<i128>,
-        point: &mut [u8],
-    ) -> Result<Advice, AllocError> {
-        if let Some(advice) = self.lead.advice(area, depth) {
-            if ends(program, area, &advice, best) {
+    fn advise(&mut self, asked: &Asked, point: &mut [u8]) -> Result<Advice, AllocError> {
+        if let Some(advice) = self.lead.advice(asked.area, asked.depth) {
+            if ends(asked.program, asked.area, &advice, asked.best) {
                 return Ok(advice);
             }
         }
-        self.plain.advise(alloc, program, area, depth, best, point)
+        self.plain.advise(asked, point)
     }
 }
 

@@ -20,6 +20,18 @@ pub struct Advice {
     pub max: Option<u8>,
 }
 
+/// A box on which a guide is asked, after its cuts.
+#[derive(Clone, Copy)]
+pub struct Asked<'a> {
+    pub alloc: Global,
+    pub program: &'a Program,
+    pub area: &'a Area,
+    /// How many splits the box stands below.
+    pub depth: u32,
+    /// The worth of the best point found so far.
+    pub best: Option<i128>,
+}
+
 /// What may advise a search. It promises nothing: a certificate counts by its exact cap, a slot where both its parts have points,
 /// and a value at the slot of a sum where, besides, both parts can be split less often.
 pub trait Guide {
@@ -28,18 +40,9 @@ pub trait Guide {
         requires slots { length (present area.now) ≡ length program.now.root }
         requires each_open { All IsOpen (present area.now) };
 
-    /// What it advises on a box after its cuts, which stands below so many splits; `best` is the worth of the best point found
-    /// so far. What it leaves in `point`, a value for each slot, is what the hinter finds there.
-    fn advise(
-        &mut self,
-        alloc: Global,
-        program: &Program,
-        area: &Area,
-        depth: u32,
-        best: Option<i128>,
-        point: &mut [u8],
-    ) -> Result<Advice, AllocError>
-        requires slots { length (present area.now) ≡ length program.now.root }
-        requires places { length point.old ≡ length program.now.root }
-        requires each_open { All IsOpen (present area.now) };
+    /// What it advises on a box. What it leaves in `point`, a value for each slot, is what the hinter finds there.
+    fn advise(&mut self, asked: &Asked, point: &mut [u8]) -> Result<Advice, AllocError>
+        requires slots { length (present asked.now.area.now) ≡ length asked.now.program.now.root }
+        requires places { length point.old ≡ length asked.now.program.now.root }
+        requires each_open { All IsOpen (present asked.now.area.now) };
 }

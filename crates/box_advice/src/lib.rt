@@ -8,6 +8,6 @@ mod advisers;
 mod guide;
 mod hinter;
 
-pub use advisers::Advisers;
-pub use guide::{Advice, Guide};
+pub use advisers::{Advisers, Sought};
+pub use guide::{Advice, Asked, Guide};
 pub use hinter::Hinter;

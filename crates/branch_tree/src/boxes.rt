@@ -21,7 +21,7 @@ use crate::found::{found_at, is_chosen, worth_of};
 use crate::judging::judge;
 use crate::putting::{leave_open, open_box, put_found};
 use crate::reached::{Ground, Reached};
-use box_advice::{Advice, Guide, Hinter};
+use box_advice::{Advice, Asked, Guide, Hinter};
 use dual_bound::Cert;
 use proof_tree::{Capped, Item, NodeTaker, Relaxation, TakeStop, floor_cap, greater_cap};
 use row_kit::{Area, Found};
@@ -55,15 +55,14 @@ fn advised<G: Guide>(
             max: None,
         });
     }
-    let best = worth_of(&reached.best);
-    guide.advise(
-        ground.alloc,
-        &ground.rows.program,
+    let asked = Asked {
+        alloc: ground.alloc,
+        program: &ground.rows.program,
         area,
-        reached.depth,
-        best,
-        &mut reached.point,
-    )
+        depth: reached.depth,
+        best: worth_of(&reached.best),
+    };
+    guide.advise(&asked, &mut reached.point)
 }
 
 // Looks at a counted box after its cuts: puts its found point, and answers its end. The area is afterwards as before.

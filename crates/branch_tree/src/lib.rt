@@ -21,7 +21,7 @@ mod request;
 mod searchable;
 mod searching;
 
-pub use box_advice::{Advice, Guide, Hinter};
+pub use box_advice::{Advice, Asked, Guide, Hinter};
 pub use box_place::BoxPlace;
 pub use ended::{Ended, Guided, Searched};
 pub use found::{better, least_value, worth_of};

@@ -50,8 +50,8 @@ pub fn with_derivations(
     }
 }
 
-// A program over another root with as many slots.
-pub(crate) fn rooted(program: Program, root: List<Domain>) -> Program
+/// A program over another root with as many slots.
+pub fn rooted(program: Program, root: List<Domain>) -> Program
     requires same_slots { length root ≡ length program.root }
     requires normal { All IsNormal root }
     ensures { IsRooted program root result }
@@ -140,8 +140,8 @@ fn with_row(
     }
 }
 
-// A program with one row more.
-pub(crate) fn pushed(program: Program, row: Row) -> Result<Program, AllocError>
+/// A program with one row more.
+pub fn pushed(program: Program, row: Row) -> Result<Program, AllocError>
     requires few_rows { length program.rows + 1 ≤ 400000 }
     requires bounded { IsBoundedRow (length program.root) row }
     ensures { IfOk result (IsWithMore program (row ∷ [])) }

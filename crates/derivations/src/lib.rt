@@ -16,6 +16,7 @@ mod meeting;
 pub use anew::with_derivations_anew;
 pub use counting::row_count;
 pub use derivation::Derivation;
-pub use growing::with_derivations;
+pub use growing::{pushed, rooted, with_derivations};
 pub use grown::Grown;
 pub use law::{anew_holds, derivations_hold};
+pub use meeting::domains_left;

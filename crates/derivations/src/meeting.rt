@@ -8,7 +8,7 @@ ghost use Rattle.derivations.specs.Larger.{met};
 use row_kit::{Area, Domain, List};
 use std::alloc::{AllocError, Global};
 
-// The present domains of an area.
+/// The present domains of an area.
 pub fn domains_left(alloc: Global, area: &Area) -> Result<List<Domain>, AllocError>
     ensures left { IfOk result (λ domains. domains ≡ present area.now) }
     ensures normal { IfOk result (λ domains. All IsNormal domains) }

@@ -1,7 +1,7 @@
 //! What makes the advisers of a search that goes on.
 use crate::end_guide::EndGuide;
-use box_advice::Hinter;
-use row_kit::{Area, Domain, Program};
+use box_advice::{Hinter, Sought};
+use row_kit::{Area, Domain};
 use std::alloc::{AllocError, Global};
 
 /// An open end of a proof.
@@ -31,8 +31,7 @@ impl OpenEnd {
 }
 
 /// What makes the advisers of searches that go on at open ends, so that such a search is proved whoever advises it. It promises
-/// nothing of what they advise. The slots from the number `given` on are those of sums, and points are judged by `choices`, as
-/// `Advisers` has it.
+/// nothing of what they advise.
 pub trait EndAdvisers {
     /// The guide of a search.
     type Guide: EndGuide + Drop;
@@ -40,24 +39,16 @@ pub trait EndAdvisers {
     /// The hinter of a search.
     type Hinter: Hinter + Drop;
 
-    /// The guide and the hinter of a search of at most so many boxes at these open ends, told in their order, where `start` is the best
-    /// plan that is known; it is empty where none is. The guide may pass ends and leave boxes open though budget is left. The third is
+    /// The guide and the hinter of a search of at most so many boxes at these open ends, told in their order, which begins with the best
+    /// plan that is known. The guide may pass ends and leave boxes open though budget is left. The third is
     /// the best plan that was found already, or empty.
     fn resumed(
         alloc: Global,
-        program: &Program,
-        choices: &Program,
-        given: u32,
+        sought: &Sought,
         budget: u32,
         ends: Vec<OpenEnd>,
-        start: &[u8],
     ) -> Result<(Self::Guide, Self::Hinter, Vec<u8>), AllocError>;
 
     /// The guide and the hinter of a search that searches each end and leaves boxes open only where its budget is spent.
-    fn in_order(
-        alloc: Global,
-        program: &Program,
-        choices: &Program,
-        given: u32,
-    ) -> Result<(Self::Guide, Self::Hinter), AllocError>;
+    fn in_order(alloc: Global, sought: &Sought) -> Result<(Self::Guide, Self::Hinter), AllocError>;
 }

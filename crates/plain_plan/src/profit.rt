@@ -212,8 +212,9 @@ fn used_in(plant: &Plant, plan: &[Start], utility: u32, period: u32) -> i128
     scaled(rate, load_in(plant, plan, utility, period) as i128)
 }
 
+/// What the starts of the plan cost, in money.
 #[tactic(auto, unfolding(stn_model::specs::Profit::start_cost), using(stn_model::proofs::Totals::total_more))]
-fn start_cost(plant: &Plant, plan: &[Start]) -> i128
+pub fn start_cost(plant: &Plant, plan: &[Start]) -> i128
     requires sound { Sound plant.now }
     requires few { length plan.now < 2 ^ 32 }
     ensures value { result ≡ start_cost plant.now plan.now }
@@ -284,7 +285,7 @@ fn changeover(plant: &Plant, plan: &[Start], a: &Start, b: &Start) -> u128
 }
 
 /// What the changeovers to first batches cost.
-fn first_changes(plant: &Plant, plan: &[Start]) -> u128
+pub fn first_changes(plant: &Plant, plan: &[Start]) -> u128
     requires { length plan.now < 2 ^ 32 }
     ensures value { result ≡ sum_by (first_change plant.now plan.now) plan.now }
     ensures small { result ≤ 2 ^ 64 }
@@ -301,8 +302,9 @@ fn first_change(plant: &Plant, plan: &[Start], b: &Start) -> u128
     ensures value { result ≡ first_change plant.now plan.now b.now }
     ensures small { result ≤ 2 ^ 32 }
 {
-    if is_first(plan, b) {
-        first_cost(plant, b.unit, b.task) as u128
+    let cost = first_cost(plant, b.unit, b.task);
+    if 0 < cost && is_first(plan, b) {
+        cost as u128
     } else {
         0
     }

@@ -11,6 +11,7 @@ use crate::copying::copy_whole;
 use crate::gathering::{Gathered, gather};
 use crate::going_on::{Advice, copied, write_with};
 use crate::task::Task;
+use box_advice::Sought;
 use branch_tree::{GoingOn, is_searchable};
 use end_advice::{EndAdvisers, OpenEnd};
 use log_nodes::WalkStop;
@@ -137,20 +138,23 @@ fn advice_from<A: EndAdvisers>(
     best: &Option<Found>,
 ) -> Result<Advice<A::Hinter, A::Guide>, AllocError> {
     let start = values_of(alloc, best)?;
-    let (guide, hinter, plan) = A::resumed(
-        alloc,
-        &task.pair.rows.program,
-        choices_of(task.pair.rows),
-        task.given,
-        task.budget,
-        ends,
-        start.as_slice(),
-    )?;
+    let sought = sought_from(task, start.as_slice());
+    let (guide, hinter, plan) = A::resumed(alloc, &sought, task.budget, ends)?;
     Ok(Advice {
         hinter,
         guide,
         plan,
     })
+}
+
+// What the advisers of the search are made for, where plans are looked for from a point.
+fn sought_from<'a>(task: Task<'a>, start: &'a [u8]) -> Sought<'a> {
+    Sought {
+        program: &task.pair.rows.program,
+        choices: choices_of(task.pair.rows),
+        given: task.given,
+        start,
+    }
 }
 
 // Searches on without advice on which ends, and writes the log anew.
@@ -167,9 +171,7 @@ fn search_anew<A: EndAdvisers, F: Shelf>(
     ensures frame { ReadsAndWritesOne F.Shelf task.entry.pair.out.now files.old files.new }
     ensures stops { Stops F.Shelf result files.old files.new }
 {
-    let program = &task.pair.rows.program;
-    let choices = choices_of(task.pair.rows);
-    let (guide, hinter) = A::in_order(alloc, program, choices, task.given)?;
+    let (guide, hinter) = A::in_order(alloc, &sought_from(task, &[]))?;
     let advice = Advice {
         hinter,
         guide,

@@ -6,10 +6,10 @@ ghost use Rattle.unit_rows.specs.Firsts.{is_early_on};
 ghost use Rattle.row_names.specs.RowNames.{firsts_on, first_names};
 
 use crate::name::RowName;
-use crate::slot::is_on;
 use std::alloc::AllocError;
 use stn_model::{Plant, ready};
 use time_grid::Grid;
+use unit_rows::is_on;
 
 /// Appends the names of the first rows, by unit, then by slot.
 #[tactic(auto, unfolding(crate::specs::RowNames::first_names), using(crate::proofs::Ranges::pieces_next))]

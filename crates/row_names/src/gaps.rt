@@ -7,10 +7,10 @@ ghost use Rattle.unit_rows.specs.Gaps.{gap_after, is_too_soon};
 ghost use Rattle.row_names.specs.RowNames.{gaps_after, gaps_on, gap_names};
 
 use crate::name::RowName;
-use crate::slot::{is_on, slot_end};
 use std::alloc::AllocError;
-use stn_model::{Plant, Run, gap_of};
+use stn_model::Plant;
 use time_grid::Grid;
+use unit_rows::{gap_after, is_on, slot_end};
 
 /// Appends the names of the gap rows, by unit, then by the first slot, then by the second.
 #[tactic(auto, unfolding(crate::specs::RowNames::gap_names), using(crate::proofs::Ranges::pieces_next))]
@@ -84,15 +84,4 @@ fn is_too_soon(plant: &Plant, first: (u32, u32), second: (u32, u32)) -> bool
     let gap = gap_after(plant, run, plant.runs.get(second.0 as usize));
     let period = second.1 as u64;
     ending <= period && period < ending + gap as u64
-}
-
-// How long the unit is cleaned between batches of two runs; 0 where they are not on one unit.
-fn gap_after(plant: &Plant, first: &Run, second: &Run) -> u32
-    ensures { result ≡ gap_after plant.now first.now second.now }
-{
-    if first.unit == second.unit {
-        gap_of(plant, first.unit, first.task, second.task)
-    } else {
-        0
-    }
 }

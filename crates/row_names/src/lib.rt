@@ -7,7 +7,6 @@ mod firsts;
 mod gaps;
 mod name;
 mod names;
-mod slot;
 mod tables;
 
 pub use name::RowName;

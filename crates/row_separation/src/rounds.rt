@@ -3,10 +3,11 @@ ghost use Rattle.std.specs.Prelude.{◌≡◌, ◌≤◌, length};
 
 use crate::bound::Bound;
 use crate::candidates::{Candidates, list_rows, list_windows};
-use crate::copies::{copied, domains_left, no_row, over, pushed};
+use crate::copies::{copied, no_row, over};
 use crate::families::Window;
 use crate::history::History;
 use crate::paths::list_paths;
+use derivations::{domains_left, pushed};
 use derived_rows::{Derived, Factor, shown_row};
 use fixed_point::numbered;
 use range_prop::cut_all;

@@ -5,7 +5,7 @@ ghost use Rattle.branch_tree.specs.SearchRequest.{CanSearch};
 
 use crate::tables::{CHAIN, CHAIN_ROWS, WIDE, over_rows, program};
 use branch_tree::{
-    Advice, Guide, Hinter, SearchRequest, SplitRules, are_plain_searchable, search_guided,
+    Advice, Asked, Guide, Hinter, SearchRequest, SplitRules, are_plain_searchable, search_guided,
     search_to,
 };
 use dual_bound::{Cert, Mult};
@@ -46,19 +46,11 @@ impl Guide for Diver {
         false
     }
 
-    fn advise(
-        &mut self,
-        alloc: Global,
-        _program: &Program,
-        _area: &Area,
-        _depth: u32,
-        _best: Option<i128>,
-        _point: &mut [u8],
-    ) -> Result<Advice, AllocError> {
+    fn advise(&mut self, asked: &Asked, _point: &mut [u8]) -> Result<Advice, AllocError> {
         let mults = [Mult { row: 0, factor: 1 }];
         let cert = Cert {
             scale: 1,
-            mults: List::from_slice(alloc, &mults)?,
+            mults: List::from_slice(asked.alloc, &mults)?,
         };
         Ok(Advice {
             cert: Some(cert),

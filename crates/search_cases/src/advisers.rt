@@ -1,5 +1,5 @@
 //! Hinters and guides that try a search.
-use branch_tree::{Advice, Guide, Hinter};
+use branch_tree::{Advice, Asked, Guide, Hinter};
 use dual_bound::{Cert, Mult};
 use row_kit::{Area, List, Program};
 use std::alloc::{AllocError, Global};
@@ -46,17 +46,9 @@ impl Guide for Liar {
         self.leaves
     }
 
-    fn advise(
-        &mut self,
-        alloc: Global,
-        _program: &Program,
-        _area: &Area,
-        _depth: u32,
-        _best: Option<i128>,
-        point: &mut [u8],
-    ) -> Result<Advice, AllocError> {
+    fn advise(&mut self, asked: &Asked, point: &mut [u8]) -> Result<Advice, AllocError> {
         point.fill(255);
-        lie(alloc)
+        lie(asked.alloc)
     }
 }
 
@@ -94,15 +86,7 @@ impl Guide for Splitter {
         false
     }
 
-    fn advise(
-        &mut self,
-        _alloc: Global,
-        _program: &Program,
-        _area: &Area,
-        _depth: u32,
-        _best: Option<i128>,
-        _point: &mut [u8],
-    ) -> Result<Advice, AllocError> {
+    fn advise(&mut self, _asked: &Asked, _point: &mut [u8]) -> Result<Advice, AllocError> {
         Ok(Advice {
             cert: None,
             slot: Some(0),

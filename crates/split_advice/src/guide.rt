@@ -8,7 +8,7 @@ use crate::bounding::{MOST_STEPS, bound_box};
 use crate::candidates::Candidate;
 use crate::path::Path;
 use crate::picking::Picker;
-use box_advice::{Advice, Guide};
+use box_advice::{Advice, Asked, Guide};
 use dual_bound::Cert;
 use dual_simplex::{Basis, Workspace};
 use row_kit::{Area, Program};
@@ -107,15 +107,14 @@ impl Guide for PlanGuide {
         false
     }
 
-    fn advise(
-        &mut self,
-        alloc: Global,
-        program: &Program,
-        area: &Area,
-        depth: u32,
-        best: Option<i128>,
-        point: &mut [u8],
-    ) -> Result<Advice, AllocError> {
+    fn advise(&mut self, asked: &Asked, point: &mut [u8]) -> Result<Advice, AllocError> {
+        let Asked {
+            alloc,
+            program,
+            area,
+            depth,
+            best,
+        } = *asked;
         let start = self.path.above(depth);
         let bounded = bound_box(alloc, &mut self.workspace, program, area, start, best)?;
         self.workspace.round(area, point);

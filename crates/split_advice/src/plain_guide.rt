@@ -1,8 +1,8 @@
 //! The guide of a search that is not advised where to split.
-use box_advice::{Advice, Guide};
+use box_advice::{Advice, Asked, Guide};
 use dual_simplex::solve_dual;
 use row_kit::{Area, Program};
-use std::alloc::{AllocError, Global};
+use std::alloc::AllocError;
 
 /// Advises the certificate of the dual simplex and no slot to split, and leaves no box open.
 #[derive(Drop)]
@@ -13,16 +13,8 @@ impl Guide for PlainGuide {
         false
     }
 
-    fn advise(
-        &mut self,
-        alloc: Global,
-        program: &Program,
-        area: &Area,
-        _depth: u32,
-        _best: Option<i128>,
-        _point: &mut [u8],
-    ) -> Result<Advice, AllocError> {
-        let cert = solve_dual(alloc, program, area)?;
+    fn advise(&mut self, asked: &Asked, _point: &mut [u8]) -> Result<Advice, AllocError> {
+        let cert = solve_dual(asked.alloc, asked.program, asked.area)?;
         Ok(Advice {
             cert: Some(cert),
             slot: None,

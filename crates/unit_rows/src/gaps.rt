@@ -111,8 +111,8 @@ fn fill_gaps(plant: &Plant, run: u32, gaps: &mut [u32])
     }
 }
 
-// How long the unit is cleaned between batches of two runs; 0 where they are not on one unit.
-fn gap_after(plant: &Plant, first: &Run, second: &Run) -> u32
+/// How long the unit is cleaned between batches of two runs; 0 where they are not on one unit.
+pub fn gap_after(plant: &Plant, first: &Run, second: &Run) -> u32
     ensures { result ≡ gap_after plant.now first.now second.now }
 {
     if first.unit == second.unit {

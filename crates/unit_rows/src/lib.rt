@@ -12,4 +12,5 @@ pub mod written;
 
 pub use busy::add_busy;
 pub use firsts::add_firsts;
-pub use gaps::add_gaps;
+pub use gaps::{add_gaps, gap_after};
+pub use slot::{is_on, slot_end};

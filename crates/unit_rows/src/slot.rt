@@ -5,7 +5,7 @@ ghost use Rattle.unit_rows.specs.Busy.{slot_end, is_on};
 
 use stn_model::{Plant, duration};
 
-// Whether the slot is one of the unit.
+/// Whether the slot is one of the unit.
 pub fn is_on(plant: &Plant, unit: u32, slot: (u32, u32)) -> bool
     requires { slot.0 < length plant.now.runs }
     ensures { result ≡ is_on plant.now unit slot }
@@ -13,7 +13,7 @@ pub fn is_on(plant: &Plant, unit: u32, slot: (u32, u32)) -> bool
     plant.runs.get(slot.0 as usize).unit == unit
 }
 
-// The time at which a start in the slot ends.
+/// The time at which a start in the slot ends.
 pub fn slot_end(plant: &Plant, slot: (u32, u32)) -> u64
     requires sound { Sound plant.now }
     requires run { slot.0 < length plant.now.runs }
