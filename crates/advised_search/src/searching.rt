@@ -1,9 +1,7 @@
 //! Searches with the advisers, which are made and let go of in each call.
-ghost use Rattle.std.specs.Prelude.{◌≡◌, ◌≢◌, ◌≤◌, IfOk, OnOk, OnErr, IsErrOf, false, true};
-ghost use Rattle.proof_tree.specs.Taker.{Rose};
-ghost use Rattle.proof_tree.specs.Tree.{tree_of};
+ghost use Rattle.std.specs.Prelude.{IfOk, OnErr};
 ghost use Rattle.branch_tree.specs.Searched.{ended_of};
-ghost use Rattle.branch_tree.specs.SearchRequest.{BeganFor, CanSearch, IsExactFor, IsSearchFor, WasBrokenOff, WasSearched};
+ghost use Rattle.branch_tree.specs.SearchRequest.{CanSearch, CountsFaults, HasBuilt, HasEnded, IsExactFor, TellsExact, WasBrokenOff};
 
 use box_advice::{Advisers, Sought};
 use branch_tree::{
@@ -49,19 +47,12 @@ pub fn search_advised<A: Advisers, O, T: NodeTaker<Rows, O>>(
 ) -> Result<Guided, TakeStop>
     requires can { CanSearch sought.now }
     requires ready { T.ready taker.old out.old }
-    ensures ready { OnOk result (T.ready taker.new out.new) }
-    ensures ok { IfOk result (λ guided. WasSearched T.took sought.now guided.ended taker.old
+    ensures ok { IfOk result (λ guided. HasEnded T.ready T.took sought.now guided.ended taker.old
         out.old taker.new out.new) }
-    ensures begun { IfOk result (λ guided. BeganFor sought.now guided.ended.best) }
-    ensures exact { IfOk result
-        (λ guided. guided.exact ≡ true → IsExactFor sought.now guided.ended) }
-    ensures inexact { IfOk result
-        (λ guided. guided.exact ≡ false
-        → (guided.ended.left_open ≡ true) × (guided.ended.spent ≢ sought.now.budget)) }
+    ensures exact { IfOk result (λ guided. TellsExact sought.now guided.exact guided.ended) }
     ensures err { OnErr result (WasBrokenOff T.took T.broke sought.now taker.old out.old
         taker.new out.new) }
-    ensures later { T.faults out.old ≤ T.faults out.new }
-    ensures failed { IsErrOf result TakeStop.Failed → Rose (T.faults out.old) (T.faults out.new) }
+    ensures faults { CountsFaults T.faults result out.old out.new }
 {
     let (mut guide, mut hinter) = advised::<A>(alloc, sought)?;
     search_guided_to(alloc, sought, &mut hinter, &mut guide, taker, out)
@@ -76,15 +67,12 @@ pub fn search_hinted<A: Advisers, O, T: NodeTaker<Rows, O>>(
 ) -> Result<Ended, TakeStop>
     requires can { CanSearch sought.now }
     requires ready { T.ready taker.old out.old }
-    ensures ready { OnOk result (T.ready taker.new out.new) }
-    ensures ok { IfOk result (λ ended. WasSearched T.took sought.now ended taker.old out.old
+    ensures ok { IfOk result (λ ended. HasEnded T.ready T.took sought.now ended taker.old out.old
         taker.new out.new) }
-    ensures begun { IfOk result (λ ended. BeganFor sought.now ended.best) }
     ensures exact { IfOk result (IsExactFor sought.now) }
     ensures err { OnErr result (WasBrokenOff T.took T.broke sought.now taker.old out.old
         taker.new out.new) }
-    ensures later { T.faults out.old ≤ T.faults out.new }
-    ensures failed { IsErrOf result TakeStop.Failed → Rose (T.faults out.old) (T.faults out.new) }
+    ensures faults { CountsFaults T.faults result out.old out.new }
 {
     let (mut guide, mut hinter) = hinted::<A>(alloc, sought)?;
     search_to(alloc, sought, &mut hinter, &mut guide, taker, out)
@@ -96,14 +84,8 @@ pub fn build_advised<A: Advisers>(
     sought: &SearchRequest,
 ) -> Result<(Searched, bool), AllocError>
     requires { CanSearch sought.now }
-    ensures ok { IfOk result
-        (λ found. IsSearchFor sought.now (ended_of found.0) (tree_of found.0.tree)) }
-    ensures begun { IfOk result (λ found. BeganFor sought.now found.0.best) }
-    ensures exact { IfOk result
-        (λ found. found.1 ≡ true → IsExactFor sought.now (ended_of found.0)) }
-    ensures inexact { IfOk result
-        (λ found. found.1 ≡ false
-        → (found.0.left_open ≡ true) × (found.0.spent ≢ sought.now.budget)) }
+    ensures ok { IfOk result (λ found. HasBuilt sought.now found.0) }
+    ensures exact { IfOk result (λ found. TellsExact sought.now found.1 (ended_of found.0)) }
 {
     let (mut guide, mut hinter) = advised::<A>(alloc, sought)?;
     search_guided(alloc, sought, &mut hinter, &mut guide)
@@ -115,9 +97,7 @@ pub fn build_hinted<A: Advisers>(
     sought: &SearchRequest,
 ) -> Result<Searched, AllocError>
     requires { CanSearch sought.now }
-    ensures ok { IfOk result
-        (λ searched. IsSearchFor sought.now (ended_of searched) (tree_of searched.tree)) }
-    ensures begun { IfOk result (λ searched. BeganFor sought.now searched.best) }
+    ensures ok { IfOk result (HasBuilt sought.now) }
     ensures exact { IfOk result (λ searched. IsExactFor sought.now (ended_of searched)) }
 {
     let (mut guide, mut hinter) = hinted::<A>(alloc, sought)?;

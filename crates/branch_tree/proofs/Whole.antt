@@ -34,7 +34,7 @@ use Rattle.branch_tree.specs.declared.request.SearchRequest.{SearchRequest}
 use Rattle.row_relax.specs.RowProofs.{RowItem, RowTree}
 use Rattle.branch_tree.specs.Justified.{IsGroup}
 use Rattle.branch_tree.specs.Searched.{IsBest, IsBrokenOff, IsExact, IsFitItem, IsSearch, IsSearchable, AreSearchable, IsSearchedTo, IsSettled, IsWorth, ended_of}
-use Rattle.branch_tree.specs.SearchRequest.{IsSearchFor}
+use Rattle.branch_tree.specs.SearchRequest.{BeganFor, HasBuilt, IsSearchFor}
 use Rattle.branch_tree.specs.Compared.{is_over}
 use Rattle.branch_tree.specs.laws.Ends.{NodeDone}
 use Rattle.range_prop.specs.Cuts.{HaveRoomBut}
@@ -243,5 +243,8 @@ pub root-before : {T O : Type 0} (took broke : T → O → List RowItem → T �
 root-before took broke most rows floors t o searchable none = root-stopped took broke most rows floors t o t o searchable none (box_before took broke rows floors (view_of rows.program.root) t o)
 
 -- the search that a proof was built for, where the tree that was built is that of the proof
-pub root-built : (sought : SearchRequest) (ended : Ended) (searched : Searched) (tree : RowTree) → ended_of searched ≡ ended → tree_of searched.tree ≡ tree → IsSearchFor sought ended tree → IsSearchFor sought (ended_of searched) (tree_of searched.tree)
-root-built sought ended searched tree same is found = subst (λ (t : RowTree). IsSearchFor sought (ended_of searched) t) (sym is) (subst (λ (e : Ended). IsSearchFor sought e tree) (sym same) found)
+pub root-built : (sought : SearchRequest) (ended : Ended) (searched : Searched) (tree : RowTree) → ended_of searched ≡ ended → tree_of searched.tree ≡ tree → IsSearchFor sought ended tree → BeganFor sought ended.best → HasBuilt sought searched
+root-built sought ended searched tree same is found begun = record {
+  search = subst (λ (t : RowTree). IsSearchFor sought (ended_of searched) t) (sym is) (subst (λ (e : Ended). IsSearchFor sought e tree) (sym same) found);
+  begun = subst (λ (e : Ended). BeganFor sought e.best) (sym same) begun;
+}

@@ -1,11 +1,10 @@
 //! The search of a root.
-ghost use Rattle.std.specs.Prelude.{◌≡◌, ◌≢◌, ◌≤◌, List, [], IfOk, OnOk, OnErr, IsErrOf, IsTrue, ◌↔◌, false, true};
-ghost use Rattle.proof_tree.specs.Taker.{Rose};
+ghost use Rattle.std.specs.Prelude.{◌≡◌, List, [], IfOk, OnErr, false};
 ghost use Rattle.proof_tree.specs.Tree.{tree_of};
 ghost use Rattle.proof_tree.specs.Items.{tree_items};
 ghost use Rattle.proof_tree.specs.Built.{HoldsItems};
 ghost use Rattle.branch_tree.specs.Searched.{ended_of};
-ghost use Rattle.branch_tree.specs.SearchRequest.{BeganFor, CanSearch, IsExactFor, IsSearchFor, WasBrokenOff, WasSearched};
+ghost use Rattle.branch_tree.specs.SearchRequest.{CanSearch, CountsFaults, HasBuilt, HasEnded, IsExactFor, TellsExact, WasBrokenOff};
 ghost use Rattle.row_relax.specs.RowProofs.{RowTree};
 ghost use Rattle.branch_tree.specs.laws.Grounds.{IsOffered, IsStart};
 
@@ -70,17 +69,14 @@ fn search_root<H: Hinter, G: Guide, O, T: NodeTaker<Rows, O>>(
 ) -> Result<Ended, TakeStop>
     requires can { CanSearch sought.now }
     requires ready { T.ready taker.old out.old }
-    ensures ready { OnOk result (T.ready taker.new out.new) }
-    ensures ok { IfOk result (λ ended. WasSearched T.took sought.now ended taker.old out.old
+    ensures ok { IfOk result (λ ended. HasEnded T.ready T.took sought.now ended taker.old out.old
         taker.new out.new) }
-    ensures begun { IfOk result (λ ended. BeganFor sought.now ended.best) }
     ensures exact { IfOk result (λ ended. may_leave ≡ false → IsExactFor sought.now ended) }
     ensures full { IfOk result
         (λ ended. ended.spent ≡ sought.now.budget → IsExactFor sought.now ended) }
     ensures err { OnErr result (WasBrokenOff T.took T.broke sought.now taker.old out.old
         taker.new out.new) }
-    ensures later { T.faults out.old ≤ T.faults out.new }
-    ensures failed { IsErrOf result TakeStop.Failed → Rose (T.faults out.old) (T.faults out.new) }
+    ensures faults { CountsFaults T.faults result out.old out.new }
 {
     let ground = Ground {
         alloc,
@@ -118,19 +114,12 @@ pub fn search_guided_to<H: Hinter, G: Guide, O, T: NodeTaker<Rows, O>>(
 ) -> Result<Guided, TakeStop>
     requires can { CanSearch sought.now }
     requires ready { T.ready taker.old out.old }
-    ensures ready { OnOk result (T.ready taker.new out.new) }
-    ensures ok { IfOk result (λ guided. WasSearched T.took sought.now guided.ended taker.old
+    ensures ok { IfOk result (λ guided. HasEnded T.ready T.took sought.now guided.ended taker.old
         out.old taker.new out.new) }
-    ensures begun { IfOk result (λ guided. BeganFor sought.now guided.ended.best) }
-    ensures exact { IfOk result
-        (λ guided. guided.exact ≡ true → IsExactFor sought.now guided.ended) }
-    ensures inexact { IfOk result
-        (λ guided. guided.exact ≡ false
-        → (guided.ended.left_open ≡ true) × (guided.ended.spent ≢ sought.now.budget)) }
+    ensures exact { IfOk result (λ guided. TellsExact sought.now guided.exact guided.ended) }
     ensures err { OnErr result (WasBrokenOff T.took T.broke sought.now taker.old out.old
         taker.new out.new) }
-    ensures later { T.faults out.old ≤ T.faults out.new }
-    ensures failed { IsErrOf result TakeStop.Failed → Rose (T.faults out.old) (T.faults out.new) }
+    ensures faults { CountsFaults T.faults result out.old out.new }
 {
     let ended = search_root(alloc, sought, true, hinter, guide, taker, out)?;
     let exact = !ended.left_open || ended.spent == sought.budget;
@@ -151,15 +140,12 @@ pub fn search_to<H: Hinter, G: Guide, O, T: NodeTaker<Rows, O>>(
 ) -> Result<Ended, TakeStop>
     requires can { CanSearch sought.now }
     requires ready { T.ready taker.old out.old }
-    ensures ready { OnOk result (T.ready taker.new out.new) }
-    ensures ok { IfOk result (λ ended. WasSearched T.took sought.now ended taker.old out.old
+    ensures ok { IfOk result (λ ended. HasEnded T.ready T.took sought.now ended taker.old out.old
         taker.new out.new) }
-    ensures begun { IfOk result (λ ended. BeganFor sought.now ended.best) }
     ensures exact { IfOk result (IsExactFor sought.now) }
     ensures err { OnErr result (WasBrokenOff T.took T.broke sought.now taker.old out.old
         taker.new out.new) }
-    ensures later { T.faults out.old ≤ T.faults out.new }
-    ensures failed { IsErrOf result TakeStop.Failed → Rose (T.faults out.old) (T.faults out.new) }
+    ensures faults { CountsFaults T.faults result out.old out.new }
 {
     search_root(alloc, sought, false, hinter, guide, taker, out)
 }
@@ -172,14 +158,8 @@ pub fn search_guided<H: Hinter, G: Guide>(
     guide: &mut G,
 ) -> Result<(Searched, bool), AllocError>
     requires { CanSearch sought.now }
-    ensures ok { IfOk result
-        (λ found. IsSearchFor sought.now (ended_of found.0) (tree_of found.0.tree)) }
-    ensures begun { IfOk result (λ found. BeganFor sought.now found.0.best) }
-    ensures exact { IfOk result
-        (λ found. found.1 ≡ true → IsExactFor sought.now (ended_of found.0)) }
-    ensures inexact { IfOk result
-        (λ found. found.1 ≡ false
-        → (found.0.left_open ≡ true) × (found.0.spent ≢ sought.now.budget)) }
+    ensures ok { IfOk result (λ found. HasBuilt sought.now found.0) }
+    ensures exact { IfOk result (λ found. TellsExact sought.now found.1 (ended_of found.0)) }
 {
     let mut taker = TreeTaker::new(alloc, RowCopier);
     match search_guided_to(alloc, sought, hinter, guide, &mut taker, &mut ()) {
@@ -197,9 +177,7 @@ pub fn search<H: Hinter, G: Guide>(
     guide: &mut G,
 ) -> Result<Searched, AllocError>
     requires { CanSearch sought.now }
-    ensures ok { IfOk result
-        (λ searched. IsSearchFor sought.now (ended_of searched) (tree_of searched.tree)) }
-    ensures begun { IfOk result (λ searched. BeganFor sought.now searched.best) }
+    ensures ok { IfOk result (HasBuilt sought.now) }
     ensures exact { IfOk result (λ searched. IsExactFor sought.now (ended_of searched)) }
 {
     let mut taker = TreeTaker::new(alloc, RowCopier);

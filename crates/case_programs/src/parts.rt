@@ -48,15 +48,14 @@ fn no_parts(alloc: Global) -> Parts {
 }
 
 fn checked(parts: Parts) -> Option<Program> {
-    let Parts {
-        rows,
-        profit,
-        base,
-        root,
-        tags,
-        changes,
-    } = parts;
-    Program::checked(rows, profit, base, root, tags, changes)
+    Program::checked(
+        parts.rows,
+        parts.profit,
+        parts.base,
+        parts.root,
+        parts.tags,
+        parts.changes,
+    )
 }
 
 fn take(alloc: Global, parts: &mut Parts, verb: &str, sheet: &mut Sheet) -> Tried {

@@ -1,7 +1,6 @@
 //! Judges the cases of the files that the file `index` lists.
 use crate::book::{Case, cases_of};
 use crate::sheet::{Sheet, Stop};
-use crate::step::Step;
 use crate::tried::Tried;
 use std::alloc::Global;
 use std::process::ExitCode;
@@ -10,14 +9,8 @@ use std::{fs, io};
 
 /// What the steps of a program's cases print, by the kind of a case.
 pub trait Kinds {
-    /// Prints on the sheet what the steps of a case of this kind give, or refuses a step. It begins each step on the sheet.
-    fn answer<'a>(
-        &self,
-        alloc: Global,
-        kind: &str,
-        steps: &'a [Step<'a>],
-        sheet: &mut Sheet<'a>,
-    ) -> Tried;
+    /// Prints on the sheet what the steps of a case give, by its kind, or refuses a step. It begins each step on the sheet.
+    fn answer<'a>(&self, alloc: Global, case: &'a Case<'a>, sheet: &mut Sheet<'a>) -> Tried;
 }
 
 /// How many cases are as they must be, and how many are not.
@@ -118,7 +111,7 @@ fn answered<'a, K: Kinds>(alloc: Global, kinds: &K, case: &'a Case<'a>) -> Sheet
 }
 
 fn answer<'a, K: Kinds>(alloc: Global, kinds: &K, case: &'a Case<'a>, sheet: &mut Sheet<'a>) {
-    match kinds.answer(alloc, case.kind, case.steps.as_slice(), sheet) {
+    match kinds.answer(alloc, case, sheet) {
         Ok(()) => sheet.end(),
         Err(_) => sheet.lacks_memory(),
     }

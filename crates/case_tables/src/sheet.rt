@@ -1,5 +1,6 @@
 //! The sheet of a case: the words of its present step that are not read yet, and what was printed so far.
 use crate::step::Step;
+use crate::tried::Tried;
 use std::alloc::Global;
 use std::fmt::Display;
 use std::str::FromStr;
@@ -58,6 +59,12 @@ impl<'a> Sheet<'a> {
         if self.stop.is_none() {
             self.stop = Some(Stop::Line(self.line));
         }
+    }
+
+    /// What comes of a step that is not of the form, which is noted.
+    pub fn refused(&mut self) -> Tried {
+        self.refuse();
+        Ok(())
     }
 
     /// Notes that no memory was found.

@@ -8,7 +8,7 @@ mod logs;
 mod proofs;
 mod trees;
 
-use case_tables::{Kinds, Sheet, Step, Tried, judge};
+use case_tables::{Case, Kinds, Sheet, Tried, judge};
 use std::alloc::Global;
 use std::process::ExitCode;
 
@@ -16,20 +16,12 @@ use std::process::ExitCode;
 struct LogKinds;
 
 impl Kinds for LogKinds {
-    fn answer<'a>(
-        &self,
-        alloc: Global,
-        kind: &str,
-        steps: &'a [Step<'a>],
-        sheet: &mut Sheet<'a>,
-    ) -> Tried {
-        match kind {
+    fn answer<'a>(&self, alloc: Global, case: &'a Case<'a>, sheet: &mut Sheet<'a>) -> Tried {
+        let steps = case.steps.as_slice();
+        match case.kind {
             "logs" => logs::answer(alloc, steps, sheet),
             "programs" => proofs::answer(alloc, steps, sheet),
-            _ => {
-                sheet.refuse();
-                Ok(())
-            }
+            _ => sheet.refused(),
         }
     }
 }

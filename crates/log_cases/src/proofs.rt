@@ -18,10 +18,7 @@ impl Trial for Judged {
             "tree" => tree(alloc, &self.rows, sheet),
             "settle" => settle(alloc, &self.rows, sheet),
             "check" => check(alloc, &self.rows, sheet),
-            _ => {
-                sheet.refuse();
-                Ok(())
-            }
+            _ => sheet.refused(),
         }
     }
 }

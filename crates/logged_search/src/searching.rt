@@ -1,10 +1,9 @@
 //! Searches with the advice on plans, and where that leaves boxes open though budget is left, anew without it.
-ghost use Rattle.std.specs.Prelude.{◌≡◌, ◌≤◌, IfOk, IsErrOf, OnErr, OnOk, false, length, true};
-ghost use Rattle.proof_tree.specs.Taker.{Rose};
+ghost use Rattle.std.specs.Prelude.{◌≡◌, ◌≤◌, IfOk, OnErr, false, true};
 ghost use Rattle.proof_tree.specs.Tree.{tree_of};
 ghost use Rattle.row_relax.specs.Choices.{HaveImages, choices_of};
 ghost use Rattle.branch_tree.specs.Searched.{AreSearchable, IsWorth, ended_of};
-ghost use Rattle.branch_tree.specs.SearchRequest.{BeganFor, CanSearch, IsExactFor, WasBrokenOff, WasSearched};
+ghost use Rattle.branch_tree.specs.SearchRequest.{BeganFor, CanSearch, CountsFaults, HasEnded, IsExactFor, WasBrokenOff};
 ghost use Rattle.plan_told.specs.Ended.{IsSearchOf, IsSearched, empty_end};
 ghost use Rattle.logged_search.specs.Logging.{HasFewSplits};
 ghost use Rattle.logged_search.specs.laws.SearchRequest.{IsEndingFor};
@@ -87,16 +86,13 @@ pub(crate) fn put_search<A: Advisers, O, T: NodeTaker<Rows, O>>(
 ) -> Result<Guided, TakeStop>
     requires can { CanSearch sought.now }
     requires ready { T.ready taker.old out.old }
-    ensures ready { OnOk result (T.ready taker.new out.new) }
-    ensures ok { IfOk result (λ found. WasSearched T.took sought.now found.ended taker.old
+    ensures ok { IfOk result (λ found. HasEnded T.ready T.took sought.now found.ended taker.old
         out.old taker.new out.new) }
-    ensures begun { IfOk result (λ found. BeganFor sought.now found.ended.best) }
     ensures exact { IfOk result (λ found. found.exact ≡ true → IsExactFor sought.now found.ended) }
     ensures unguided { IfOk result (λ found. guided ≡ false → found.exact ≡ true) }
     ensures err { OnErr result (WasBrokenOff T.took T.broke sought.now taker.old out.old
         taker.new out.new) }
-    ensures later { T.faults out.old ≤ T.faults out.new }
-    ensures failed { IsErrOf result TakeStop.Failed → Rose (T.faults out.old) (T.faults out.new) }
+    ensures faults { CountsFaults T.faults result out.old out.new }
 {
     if guided {
         return search_advised::<A, _, _>(alloc, sought, taker, out);

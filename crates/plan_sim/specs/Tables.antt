@@ -1,10 +1,22 @@
 -- Tables of the stocks and the loads of a plan.
-use Rattle.std.specs.Prelude.{◌-ℤ◌, ◌≡◌, ℕ, ℤ, pos, ◌+◌, ◌*◌, ◌<◌, ◌≤◌, List, length, slice_index, slice_index_or}
+use Rattle.std.specs.Prelude.{◌-ℤ◌, ◌≡◌, ℕ, ℤ, pos, ◌+◌, ◌*◌, ◌<◌, ◌≤◌, List, length, sum_by, slice_index, slice_index_or}
 use Rattle.stn_model.specs.declared.plant.Plant.{Plant}
 use Rattle.stn_model.specs.declared.start.Start.{Start}
-use Rattle.stn_model.specs.Stock.{stock}
+use Rattle.stn_model.specs.Stock.{stock, received, given, delivered, taken}
 use Rattle.stn_model.specs.Load.{load}
 use Rattle.plan_sim.specs.Moves.{summed}
+
+-- what has come into a state by a time: from outside, and from the batches
+abbrev pub arrived : Plant → List Start → ℕ → ℕ → ℕ
+arrived plant plan state time = received plant state time + sum_by (given plant state time) plan
+
+-- what has gone out of a state by a time: to customers, and into the batches
+abbrev pub departed : Plant → List Start → ℕ → ℕ → ℕ
+departed plant plan state time = delivered plant state time + sum_by (taken plant state time) plan
+
+-- what a table of moves sums to up to each time is what flows at each state by then
+abbrev pub SumsTo : Plant → List ℕ → (ℕ → ℕ → ℕ) → Type 0
+SumsTo plant cells flow = (state time : ℕ) → time < plant.periods + 1 → summed cells (plant.periods + 1) state time ≡ flow state time
 
 -- the table has the stock of each state at each time, state by state
 pub record IsStockTable (plant : Plant) (plan : List Start) (stocks : List ℤ) : Type 0 where

@@ -1,8 +1,8 @@
 //! What a feasible plan earns, in money, from the tables of its stocks and loads.
 ghost use Rattle.std.specs.Prelude.{◌≡◌, ◌≤◌, ◌<◌, ◌^◌, ◌+◌, ◌*◌, pos, ◌*ℤ◌, ◌+ℤ◌, ◌-ℤ◌, length, All, unsigned_abs};
-ghost use Rattle.stn_model.specs.Plant.{state_at, utility_at, rate_in, run_on};
+ghost use Rattle.stn_model.specs.Plant.{state_at, utility_at, rate_in};
 ghost use Rattle.stn_model.specs.Sums.{total, total_below};
-ghost use Rattle.stn_model.specs.Profit.{payments, cost_of, start_cost, change_costs, profit};
+ghost use Rattle.stn_model.specs.Profit.{payments, start_cost, change_costs, profit};
 ghost use Rattle.stn_model.specs.Sound.{Sound};
 ghost use Rattle.plan_sim.specs.Faults.{level, used, AreUsesKept};
 ghost use Rattle.plan_sim.specs.Money.{levels_worth, levels_held, level_cost, uses_cost, use_cost};
@@ -11,7 +11,8 @@ ghost use Rattle.plan_sim.specs.Units.{NoTwins};
 
 use crate::stocks::level_at;
 use crate::units::change_costs;
-use stn_model::{Plant, Start, all_payments, rate_in, run_for};
+use plain_plan::profit::start_cost;
+use stn_model::{Plant, Start, all_payments, rate_in};
 
 /// What a plan earns: end stocks and payments, less the costs of holding, utilities, starts and
 /// changeovers. It takes no memory, and time with the tables and with the square of the plan.
@@ -222,29 +223,4 @@ fn used_in(plant: &Plant, loads: &[u128], utility: usize, period: usize) -> u128
     ensures small { result ≤ 2 ^ 30 }
 {
     loads[utility * plant.periods as usize + period]
-}
-
-#[tactic(auto, unfolding(stn_model::specs::Profit::start_cost))]
-fn start_cost(plant: &Plant, plan: &[Start]) -> i128
-    requires sound { Sound plant.now }
-    requires few { length plan.now < 2 ^ 32 }
-    ensures value { result ≡ start_cost plant.now plan.now }
-    ensures small { unsigned_abs result ≤ 2 ^ 52 }
-{
-    let mut sum: i128 = 0;
-    for start in plan {
-        sum += cost_of_start(plant, start);
-    }
-    sum
-}
-
-fn cost_of_start(plant: &Plant, start: &Start) -> i128
-    requires { Sound plant.now }
-    ensures value { result ≡ cost_of (run_on plant.now start.now.task start.now.unit) }
-    ensures small { unsigned_abs result ≤ 2 ^ 20 }
-{
-    match run_for(plant, start.task, start.unit) {
-        Some(run) => run.cost as i128,
-        None => 0,
-    }
 }

@@ -1,11 +1,11 @@
 //! The stocks of all states at all times, stepped through the periods.
-ghost use Rattle.std.specs.Prelude.{◌≡◌, ◌≤◌, ◌<◌, ◌^◌, ◌+◌, ◌*◌, ◌-ℤ◌, ℕ, pos, length, sum, sum_by, take, drop, All, IfOk, OnOk, slice_index_or, unsigned_abs};
+ghost use Rattle.std.specs.Prelude.{◌≡◌, ◌≤◌, ◌<◌, ◌^◌, ◌+◌, ◌*◌, ◌-ℤ◌, length, sum, All, IfOk, OnOk, unsigned_abs};
 ghost use Rattle.stn_model.specs.Plant.{task_at};
 ghost use Rattle.stn_model.specs.Stock.{given, taken, received, delivered};
 ghost use Rattle.stn_model.specs.Sound.{Sound};
 ghost use Rattle.plan_sim.specs.Faults.{level};
 ghost use Rattle.plan_sim.specs.Moves.{summed, HasRow};
-ghost use Rattle.plan_sim.specs.Tables.{IsStockTable, AddsLevels};
+ghost use Rattle.plan_sim.specs.Tables.{IsStockTable, AddsLevels, SumsTo, arrived, departed};
 
 use crate::moves::{add_deliveries, add_inputs, add_outputs, add_receipts};
 use std::alloc::{AllocError, Global};
@@ -67,9 +67,7 @@ fn arrivals(alloc: Global, plant: &Plant, plan: &[Start]) -> Result<Vec<u128>, A
     ensures size { IfOk result
         (λ cells. length cells.items ≡ length plant.now.states * (plant.now.periods + 1)) }
     ensures moved { IfOk result
-        (λ cells. (state time : ℕ) → time < plant.now.periods + 1 →
-        summed cells.items (plant.now.periods + 1) state time
-        ≡ received plant.now state time + sum_by (given plant.now state time) plan.now) }
+        (λ cells. SumsTo plant.now cells.items (arrived plant.now plan.now)) }
     ensures total { IfOk result (λ cells. sum cells.items ≤ 2 ^ 88) }
 {
     let width = plant.periods as usize + 1;
@@ -83,9 +81,7 @@ fn add_arrivals(plant: &Plant, plan: &[Start], cells: &mut [u128])
     requires few { length plan.now < 2 ^ 32 }
     requires size { length cells.old ≡ length plant.now.states * (plant.now.periods + 1) }
     requires empty { sum cells.old ≡ 0 }
-    ensures moved { (state time : ℕ) → time < plant.now.periods + 1 →
-        summed cells.new (plant.now.periods + 1) state time
-        ≡ received plant.now state time + sum_by (given plant.now state time) plan.now }
+    ensures moved { SumsTo plant.now cells.new (arrived plant.now plan.now) }
     ensures total { sum cells.new ≤ 2 ^ 88 }
 {
     receive(plant, cells);
@@ -99,8 +95,7 @@ fn receive(plant: &Plant, cells: &mut [u128])
     requires sound { Sound plant.now }
     requires size { length cells.old ≡ length plant.now.states * (plant.now.periods + 1) }
     requires empty { sum cells.old ≡ 0 }
-    ensures moved { (state time : ℕ) → time < plant.now.periods + 1 →
-        summed cells.new (plant.now.periods + 1) state time ≡ received plant.now state time }
+    ensures moved { SumsTo plant.now cells.new (received plant.now) }
     ensures total { sum cells.new ≤ 2 ^ 40 }
 {
     add_receipts(cells, plant.periods as usize + 1, plant.receipts.as_slice());
@@ -111,10 +106,9 @@ fn give(plant: &Plant, start: &Start, cells: &mut [u128])
     requires sound { Sound plant.now }
     requires size { length cells.old ≡ length plant.now.states * (plant.now.periods + 1) }
     requires room { sum cells.old < 2 ^ 99 }
-    ensures moved { (state time : ℕ) → time < plant.now.periods + 1 →
-        summed cells.new (plant.now.periods + 1) state time
-        ≡ summed cells.old (plant.now.periods + 1) state time
-        + given plant.now state time start.now }
+    ensures moved { SumsTo plant.now cells.new (λ state time.
+        summed cells.old (plant.now.periods + 1) state time
+        + given plant.now state time start.now) }
     ensures total { sum cells.new ≤ sum cells.old + 2 ^ 55 }
 {
     if plant.tasks.len() <= start.task as usize {
@@ -136,9 +130,7 @@ fn departures(alloc: Global, plant: &Plant, plan: &[Start]) -> Result<Vec<u128>,
     ensures size { IfOk result
         (λ cells. length cells.items ≡ length plant.now.states * (plant.now.periods + 1)) }
     ensures moved { IfOk result
-        (λ cells. (state time : ℕ) → time < plant.now.periods + 1 →
-        summed cells.items (plant.now.periods + 1) state time
-        ≡ delivered plant.now state time + sum_by (taken plant.now state time) plan.now) }
+        (λ cells. SumsTo plant.now cells.items (departed plant.now plan.now)) }
     ensures total { IfOk result (λ cells. sum cells.items ≤ 2 ^ 88) }
 {
     let width = plant.periods as usize + 1;
@@ -152,9 +144,7 @@ fn add_departures(plant: &Plant, plan: &[Start], cells: &mut [u128])
     requires few { length plan.now < 2 ^ 32 }
     requires size { length cells.old ≡ length plant.now.states * (plant.now.periods + 1) }
     requires empty { sum cells.old ≡ 0 }
-    ensures moved { (state time : ℕ) → time < plant.now.periods + 1 →
-        summed cells.new (plant.now.periods + 1) state time
-        ≡ delivered plant.now state time + sum_by (taken plant.now state time) plan.now }
+    ensures moved { SumsTo plant.now cells.new (departed plant.now plan.now) }
     ensures total { sum cells.new ≤ 2 ^ 88 }
 {
     deliver(plant, cells);
@@ -168,8 +158,7 @@ fn deliver(plant: &Plant, cells: &mut [u128])
     requires sound { Sound plant.now }
     requires size { length cells.old ≡ length plant.now.states * (plant.now.periods + 1) }
     requires empty { sum cells.old ≡ 0 }
-    ensures moved { (state time : ℕ) → time < plant.now.periods + 1 →
-        summed cells.new (plant.now.periods + 1) state time ≡ delivered plant.now state time }
+    ensures moved { SumsTo plant.now cells.new (delivered plant.now) }
     ensures total { sum cells.new ≤ 2 ^ 40 }
 {
     add_deliveries(
@@ -184,10 +173,9 @@ fn take_from(plant: &Plant, start: &Start, cells: &mut [u128])
     requires sound { Sound plant.now }
     requires size { length cells.old ≡ length plant.now.states * (plant.now.periods + 1) }
     requires room { sum cells.old < 2 ^ 99 }
-    ensures moved { (state time : ℕ) → time < plant.now.periods + 1 →
-        summed cells.new (plant.now.periods + 1) state time
-        ≡ summed cells.old (plant.now.periods + 1) state time
-        + taken plant.now state time start.now }
+    ensures moved { SumsTo plant.now cells.new (λ state time.
+        summed cells.old (plant.now.periods + 1) state time
+        + taken plant.now state time start.now) }
     ensures total { sum cells.new ≤ sum cells.old + 2 ^ 55 }
 {
     if plant.tasks.len() <= start.task as usize {

@@ -1,14 +1,15 @@
 //! The starts of a plan: whether each fits, and how those on one unit follow each other.
 ghost use Rattle.std.specs.Prelude.{◌≡◌, ◌≤◌, ◌<◌, ◌^◌, ◌↔◌, ◌+◌, sum_by, ℕ, length, take, All, IsTrue, IfSome, MatchOption};
 ghost use Rattle.stn_model.specs.Plant.{end_of, gap_between};
-ghost use Rattle.stn_model.specs.Profit.{changeover, first_change, change_costs};
+ghost use Rattle.stn_model.specs.Profit.{changeover, change_costs};
 ghost use Rattle.stn_model.specs.Fits.{Fits};
 ghost use Rattle.stn_model.specs.Batches.{Apart};
 ghost use Rattle.stn_model.specs.Violations.{start_at, TooEarly};
 ghost use Rattle.plan_sim.specs.Units.{NoTwins, ApartThroughout, IsFirstBusy, NoneTooSoon, FollowsTooSoon, CleanedUntil, IsFirstGap, FitUntil, IsFirstUnfit, ApartUntil, NoneLater, IsFirstMeeting, IsLater, IsNearest, BegunUntil, IsFirstEarly};
 
-use crate::nearest::{is_first, next_on_unit};
-use stn_model::{Plant, Start, change_cost, end, first_cost, fits, gap_of, ready};
+use crate::nearest::next_on_unit;
+use plain_plan::profit::{first_changes, is_first};
+use stn_model::{Plant, Start, change_cost, end, fits, gap_of, ready};
 
 /// Two places of a plan.
 #[derive(Clone, Copy)]
@@ -160,31 +161,5 @@ fn changeover_after(plant: &Plant, plan: &[Start], a: &Start) -> u128
     match next_on_unit(plan, a) {
         Some(place) => change_cost(plant, a.unit, a.task, plan[place].task) as u128,
         None => 0,
-    }
-}
-
-/// What the changeovers to first batches cost.
-fn first_changes(plant: &Plant, plan: &[Start]) -> u128
-    requires { length plan.now < 2 ^ 32 }
-    ensures value { result ≡ sum_by (first_change plant.now plan.now) plan.now }
-    ensures small { result ≤ 2 ^ 64 }
-{
-    let mut sum: u128 = 0;
-    for b in plan {
-        sum += first_change(plant, plan, b);
-    }
-    sum
-}
-
-#[tactic(auto, unfolding(stn_model::specs::Profit::first_change))]
-fn first_change(plant: &Plant, plan: &[Start], b: &Start) -> u128
-    ensures value { result ≡ first_change plant.now plan.now b.now }
-    ensures small { result ≤ 2 ^ 32 }
-{
-    let cost = first_cost(plant, b.unit, b.task);
-    if 0 < cost && is_first(plan, b) {
-        cost as u128
-    } else {
-        0
     }
 }

@@ -1,9 +1,9 @@
 //! The stocks and loads that are not kept, time by time, and by how much.
-ghost use Rattle.std.specs.Prelude.{◌≡◌, ◌≤◌, ◌<◌, ◌^◌, ◌+◌, ◌*◌, ◌++◌, length, All, OnOk, slice_get, slice_index, unsigned_abs};
+ghost use Rattle.std.specs.Prelude.{◌≡◌, ◌≤◌, ◌<◌, ◌^◌, ◌+◌, ◌*◌, ◌++◌, length, OnOk, slice_get, slice_index, unsigned_abs};
 ghost use Rattle.stn_model.specs.Sound.{Sound};
 ghost use Rattle.plan_violations.specs.Lists.{listed_below};
 ghost use Rattle.plan_violations.specs.Breaches.{excess, above, of_level};
-ghost use Rattle.plan_violations.specs.Shown.{level_shown, use_shown, amounts_shown};
+ghost use Rattle.plan_violations.specs.Shown.{AreLevels, level_shown, use_shown, amounts_shown};
 
 use crate::breach::Breach;
 use crate::written::Written;
@@ -18,8 +18,7 @@ pub fn list_amounts(
     found: &mut Vec<Breach>,
 ) -> Written
     requires sound { Sound plant.now }
-    requires stocks { length stocks.now ≡ length plant.now.states * (plant.now.periods + 1) }
-    requires small { All (λ level. unsigned_abs level ≤ 2 ^ 90) stocks.now }
+    requires stocks { AreLevels plant.now stocks.now }
     requires loads { length loads.now ≡ length plant.now.utilities * plant.now.periods }
     ensures { OnOk result (found.new.items ≡ found.old.items
         ++ listed_below (amounts_shown plant.now stocks.now loads.now) (plant.now.periods + 1)) }
@@ -39,8 +38,7 @@ fn push_amounts(
     found: &mut Vec<Breach>,
 ) -> Written
     requires sound { Sound plant.now }
-    requires stocks { length stocks.now ≡ length plant.now.states * (plant.now.periods + 1) }
-    requires small { All (λ level. unsigned_abs level ≤ 2 ^ 90) stocks.now }
+    requires stocks { AreLevels plant.now stocks.now }
     requires loads { length loads.now ≡ length plant.now.utilities * plant.now.periods }
     requires within { time ≤ plant.now.periods }
     ensures { OnOk result (found.new.items
@@ -55,8 +53,7 @@ fn push_amounts(
 
 fn push_levels(plant: &Plant, stocks: &[i128], time: usize, found: &mut Vec<Breach>) -> Written
     requires sound { Sound plant.now }
-    requires stocks { length stocks.now ≡ length plant.now.states * (plant.now.periods + 1) }
-    requires small { All (λ level. unsigned_abs level ≤ 2 ^ 90) stocks.now }
+    requires stocks { AreLevels plant.now stocks.now }
     requires within { time ≤ plant.now.periods }
     ensures { OnOk result (found.new.items ≡ found.old.items
         ++ listed_below (level_shown plant.now stocks.now time) (length plant.now.states)) }
@@ -76,8 +73,7 @@ fn push_level(
     found: &mut Vec<Breach>,
 ) -> Written
     requires sound { Sound plant.now }
-    requires stocks { length stocks.now ≡ length plant.now.states * (plant.now.periods + 1) }
-    requires small { All (λ level. unsigned_abs level ≤ 2 ^ 90) stocks.now }
+    requires stocks { AreLevels plant.now stocks.now }
     requires there { state < length plant.now.states }
     requires within { time ≤ plant.now.periods }
     ensures { OnOk result (found.new.items

@@ -9,7 +9,8 @@ ghost use Rattle.plan_violations.specs.Next.{early_until};
 use crate::breach::{Breach, Misfit};
 use crate::busy::do_meet;
 use crate::written::Written;
-use plan_sim::nearest::{is_first, next_on_unit};
+use plain_plan::profit::is_first;
+use plan_sim::nearest::next_on_unit;
 use stn_model::{Plant, Start, end, fits, gap_of, ready, run_for};
 
 /// Lists the starts that do not fit.

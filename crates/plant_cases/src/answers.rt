@@ -72,8 +72,7 @@ fn print(alloc: Global, plant: &Plant, sheet: &mut Sheet) -> Tried
 // `plan`, over a plan file: its starts, and what is printed of them; or the kind and the line of its first fault.
 fn plan(alloc: Global, plant: &Plant, sheet: &mut Sheet) -> Tried {
     if plant.units.len() > MAX_UNITS || plant.tasks.len() > MAX_TASKS {
-        sheet.refuse();
-        return Ok(());
+        return sheet.refused();
     }
     match read_plan(alloc, plant, sheet.bytes()) {
         Ok(plan) => put_again(alloc, plant, plan.as_slice(), sheet),

@@ -5,7 +5,7 @@ mod answers;
 mod plants;
 mod setups;
 
-use case_tables::{Kinds, Sheet, Step, Tried, judge};
+use case_tables::{Case, Kinds, Sheet, Tried, judge};
 use std::alloc::Global;
 use std::process::ExitCode;
 
@@ -13,18 +13,12 @@ use std::process::ExitCode;
 struct PlantKinds;
 
 impl Kinds for PlantKinds {
-    fn answer<'a>(
-        &self,
-        alloc: Global,
-        kind: &str,
-        steps: &'a [Step<'a>],
-        sheet: &mut Sheet<'a>,
-    ) -> Tried {
-        if kind == "plants" {
+    fn answer<'a>(&self, alloc: Global, case: &'a Case<'a>, sheet: &mut Sheet<'a>) -> Tried {
+        let steps = case.steps.as_slice();
+        if case.kind == "plants" {
             plants::answer(alloc, steps, sheet)
         } else {
-            sheet.refuse();
-            Ok(())
+            sheet.refused()
         }
     }
 }

@@ -34,10 +34,7 @@ fn answer_first<'a>(
             let text = made_text(alloc, sheet)?;
             answer_text(alloc, text.as_slice(), rest, sheet)
         }
-        _ => {
-            sheet.refuse();
-            Ok(())
-        }
+        _ => sheet.refused(),
     }
 }
 

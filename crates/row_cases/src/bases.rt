@@ -41,8 +41,7 @@ fn answer_larger<'a>(
     sheet: &mut Sheet<'a>,
 ) -> Tried {
     if !has_room(&program) {
-        sheet.refuse();
-        return Ok(());
+        return sheet.refused();
     }
     let given = slot_count(&program);
     let larger = larger(alloc, program)?;

@@ -21,8 +21,7 @@ pub fn answer(
     sheet: &mut Sheet,
 ) -> Tried {
     if area.slot_count() as usize != program.root.len() {
-        sheet.refuse();
-        return Ok(());
+        return sheet.refused();
     }
     match verb {
         "total" => put_total(alloc, program, area, sheet),
@@ -30,10 +29,7 @@ pub fn answer(
         "polish" => put_polished(alloc, program, area, sheet),
         "climb" => put_climbed(alloc, program, area, sheet),
         "simplex" => put_solved(alloc, program, area, sheet),
-        _ => {
-            sheet.refuse();
-            Ok(())
-        }
+        _ => sheet.refused(),
     }
 }
 
@@ -129,8 +125,7 @@ fn put_solved(alloc: Global, program: &Program, area: &Area, sheet: &mut Sheet) 
     requires { length (present area.now) ≡ length program.now.root }
 {
     if area.has_empty() {
-        sheet.refuse();
-        return Ok(());
+        return sheet.refused();
     }
     let cert = solve_dual(alloc, program, area)?;
     put_cap(cap(program, area, &cert), sheet);

@@ -16,8 +16,7 @@ pub fn answer(
     sheet: &mut Sheet,
 ) -> Tried {
     if area.slot_count() as usize != program.root.len() {
-        sheet.refuse();
-        return Ok(());
+        return sheet.refused();
     }
     if verb == "cut" {
         one(program, area, sheet);

@@ -13,7 +13,7 @@ mod sums;
 mod systems;
 mod tried;
 
-use case_tables::{Kinds, Sheet, Step, Tried, judge};
+use case_tables::{Case, Kinds, Sheet, Tried, judge};
 use std::alloc::Global;
 use std::process::ExitCode;
 
@@ -21,22 +21,14 @@ use std::process::ExitCode;
 struct RowKinds;
 
 impl Kinds for RowKinds {
-    fn answer<'a>(
-        &self,
-        alloc: Global,
-        kind: &str,
-        steps: &'a [Step<'a>],
-        sheet: &mut Sheet<'a>,
-    ) -> Tried {
-        match kind {
+    fn answer<'a>(&self, alloc: Global, case: &'a Case<'a>, sheet: &mut Sheet<'a>) -> Tried {
+        let steps = case.steps.as_slice();
+        match case.kind {
             "programs" => programs::answer(alloc, steps, sheet),
             "bases" => bases::answer(alloc, false, steps, sheet),
             "sum_bases" => bases::answer(alloc, true, steps, sheet),
             "systems" => systems::answer(alloc, steps, sheet),
-            _ => {
-                sheet.refuse();
-                Ok(())
-            }
+            _ => sheet.refused(),
         }
     }
 }

@@ -101,8 +101,7 @@ fn part_of(sheet: &mut Sheet) -> (i64, i64) {
 
 fn put_gathered(alloc: Global, parts: &[(i64, i64)], sheet: &mut Sheet) -> Tried {
     if parts.len() > 100_000 {
-        sheet.refuse();
-        return Ok(());
+        return sheet.refused();
     }
     let entries = entries_of(alloc, parts)?;
     put_entries(entries.as_slice(), sheet);

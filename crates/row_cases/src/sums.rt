@@ -11,8 +11,7 @@ use sum_slots::Sum;
 /// `sums`: the sums that are chosen over the program's domains, a line each.
 pub fn answer(alloc: Global, program: &Program, sheet: &mut Sheet) -> Tried {
     if !has_room(program) {
-        sheet.refuse();
-        return Ok(());
+        return sheet.refused();
     }
     let sums = choose_sums(alloc, program, program.root.as_slice(), MOST_SLOTS)?;
     put_sums(sums.as_slice(), sheet);

@@ -6,7 +6,7 @@ mod programs;
 mod searches;
 mod told;
 
-use case_tables::{Kinds, Sheet, Step, Tried, judge};
+use case_tables::{Case, Kinds, Sheet, Tried, judge};
 use std::alloc::Global;
 use std::process::ExitCode;
 
@@ -14,18 +14,12 @@ use std::process::ExitCode;
 struct SearchKinds;
 
 impl Kinds for SearchKinds {
-    fn answer<'a>(
-        &self,
-        alloc: Global,
-        kind: &str,
-        steps: &'a [Step<'a>],
-        sheet: &mut Sheet<'a>,
-    ) -> Tried {
-        if kind == "programs" {
+    fn answer<'a>(&self, alloc: Global, case: &'a Case<'a>, sheet: &mut Sheet<'a>) -> Tried {
+        let steps = case.steps.as_slice();
+        if case.kind == "programs" {
             programs::answer(alloc, steps, sheet)
         } else {
-            sheet.refuse();
-            Ok(())
+            sheet.refused()
         }
     }
 }

@@ -20,8 +20,7 @@ const MOST_SPLITS: u32 = 4_608;
 /// Prints what a search gives.
 pub fn answer_step(alloc: Global, rows: &Rows, verb: &str, sheet: &mut Sheet) -> Tried {
     if !are_plain_searchable(rows, MOST_SPLITS) {
-        sheet.refuse();
-        return Ok(());
+        return sheet.refused();
     }
     match verb {
         "search" | "hint" => plain(alloc, rows, sheet),
@@ -30,10 +29,7 @@ pub fn answer_step(alloc: Global, rows: &Rows, verb: &str, sheet: &mut Sheet) ->
         "lie" => guided(alloc, rows, false, sheet),
         "leave" => guided(alloc, rows, true, sheet),
         "split" => split(alloc, rows, sheet),
-        _ => {
-            sheet.refuse();
-            Ok(())
-        }
+        _ => sheet.refused(),
     }
 }
 

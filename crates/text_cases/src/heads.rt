@@ -37,8 +37,7 @@ fn head(alloc: Global, sheet: &mut Sheet) -> Tried {
     let slots = sheet.number();
     let sizes = sizes_of(alloc, sheet)?;
     if rows > MOST_ROWS || slots > MOST_SLOTS || sizes.len() > MOST_UNITS {
-        sheet.refuse();
-        return Ok(());
+        return sheet.refused();
     }
     let mut shelf = FixedShelf::new(alloc);
     shelf.put_file("log", sheet.bytes())?;
@@ -88,8 +87,7 @@ fn setups(
     requires units { length sizes.now ≤ 65536 }
 {
     let Some(larger) = with_sums(limits, head.sums.len()) else {
-        sheet.refuse();
-        return Ok(());
+        return sheet.refused();
     };
     match read_setups(alloc, &larger, sizes, head, shelf, "log") {
         Ok(SetupFront::Bad(defect)) => put_defect(defect, sheet),
@@ -102,8 +100,7 @@ fn setups(
 // What stands behind setups.
 fn derivations(alloc: Global, setups: &Setups, shelf: &mut FixedShelf, sheet: &mut Sheet) -> Tried {
     if setups.limits.rows > MOST_ROWS {
-        sheet.refuse();
-        return Ok(());
+        return sheet.refused();
     }
     match read_derivations(alloc, &setups.limits, &setups.head, shelf, "log") {
         Ok(TailFront::Bad(defect)) => put_defect(defect, sheet),

@@ -86,8 +86,7 @@ fn put_kind(kind: Option<u8>, sheet: &mut Sheet) {
 fn pieces(alloc: Global, sheet: &mut Sheet) -> Tried {
     let most: usize = sheet.number();
     if most < 1 {
-        sheet.refuse();
-        return Ok(());
+        return sheet.refused();
     }
     let mut shelf = FixedShelf::new(alloc);
     shelf.put_file("log", sheet.bytes())?;

@@ -7,7 +7,7 @@ mod log_text;
 mod parts;
 mod words;
 
-use case_tables::{Kinds, Sheet, Step, Tried, judge};
+use case_tables::{Case, Kinds, Sheet, Tried, judge};
 use std::alloc::Global;
 use std::process::ExitCode;
 
@@ -15,22 +15,14 @@ use std::process::ExitCode;
 struct TextKinds;
 
 impl Kinds for TextKinds {
-    fn answer<'a>(
-        &self,
-        alloc: Global,
-        kind: &str,
-        steps: &'a [Step<'a>],
-        sheet: &mut Sheet<'a>,
-    ) -> Tried {
-        match kind {
+    fn answer<'a>(&self, alloc: Global, case: &'a Case<'a>, sheet: &mut Sheet<'a>) -> Tried {
+        let steps = case.steps.as_slice();
+        match case.kind {
             "words" => words::answer(alloc, steps, sheet),
             "heads" => heads::answer(alloc, steps, sheet),
             "lines" => log_text::answer(alloc, steps, sheet),
             "stores" => files::answer(alloc, steps, sheet),
-            _ => {
-                sheet.refuse();
-                Ok(())
-            }
+            _ => sheet.refused(),
         }
     }
 }

@@ -37,12 +37,13 @@ returns g c =
     c.args.taker.now c.args.out.now c.search_box.new.taker c.search_box.new.out c.in_ok-area.area c.worth_of.result
     c.requires.can.searchable c.in_ok-area.ensures.root c.in_ok-cap.ensures.handed c.in_ok-reached.ensures c.in_ok-cap.ensures.own c.in_ok-cap.ensures.left.within c.worth_of.ensures c.exceeds-left_open.ensures in
     record {
-      ready = c.in_ok-cap.ensures.left.ready;
-      ok = root-taken _ _ _ _ _ _ _ _ _ _ _ _ _ _ _ _ root (g.met.T.NodeTaker.took_none c.args.taker.now c.args.out.now);
-      begun = root-begun _ _ _ _ _ _ _ _ _ _ _ _ _ _ _ _ root;
+      ok = record {
+        ready = c.in_ok-cap.ensures.left.ready;
+        searched = root-taken _ _ _ _ _ _ _ _ _ _ _ _ _ _ _ _ root (g.met.T.NodeTaker.took_none c.args.taker.now c.args.out.now);
+        begun = root-begun _ _ _ _ _ _ _ _ _ _ _ _ _ _ _ _ root;
+      };
       exact = λ never. root-exact _ _ _ _ _ _ _ _ _ _ _ _ _ _ _ _ root (root-full _ _ _ _ _ _ _ _ _ _ _ _ _ _ _ _ root never);
       full = λ spent. root-exact _ _ _ _ _ _ _ _ _ _ _ _ _ _ _ _ root (λ over. spent);
       err = search rules;
-      later = search rules;
-      failed = search rules;
+      faults = record { later = search rules; failed = search rules };
     }

@@ -21,7 +21,7 @@ returns-in_err-writer-clause-frame g c =
 
 pub returns-in-Ok-clause-logged : goal.returns-in-Ok-clause-logged
 returns-in-Ok-clause-logged g c =
-    let found = c.in-Ok.ensures.ok in
+    let found = c.in-Ok.ensures.ok.searched in
     record {
       tree = found.tree;
       is = found.search;
@@ -37,7 +37,7 @@ returns-in-Ok-clause-frame g c =
     let is = c.in_ok-writer.ensures in
     writes-then g.F.Shelf c.args.name.now (string_bytes c.in_ok-writer.writer.name) c.args.files.now c.begin_with.new.files c.put_search.new.out is.name
     (writes-cleared g.F.Shelf c.args.name.now c.args.files.now c.begin_with.new.files is.readable is.writable is.no_read is.later is.ok)
-    (writes-handed g.F.Shelf c.in_ok-writer.writer c.put_search.new.taker c.begin_with.new.files c.put_search.new.out c.in-Ok.ensures.ok.handed.keeps c.put_search.ensures.later)
+    (writes-handed g.F.Shelf c.in_ok-writer.writer c.put_search.new.taker c.begin_with.new.files c.put_search.new.out c.in-Ok.ensures.ok.searched.handed.keeps c.put_search.ensures.faults.later)
 
 pub returns-in-Err-clause-err : goal.returns-in-Err-clause-err
 returns-in-Err-clause-err g c =
@@ -50,4 +50,4 @@ returns-in-Err-clause-frame g c =
     let is = c.in_ok-writer.ensures in
     writes-then g.F.Shelf c.args.name.now (string_bytes c.in_ok-writer.writer.name) c.args.files.now c.begin_with.new.files c.put_search.new.out is.name
     (writes-cleared g.F.Shelf c.args.name.now c.args.files.now c.begin_with.new.files is.readable is.writable is.no_read is.later is.ok)
-    (writes-handed g.F.Shelf c.in_ok-writer.writer c.put_search.new.taker c.begin_with.new.files c.put_search.new.out (handed-keeps _ _ _ c.in-Err.ensures.err.handed) c.put_search.ensures.later)
+    (writes-handed g.F.Shelf c.in_ok-writer.writer c.put_search.new.taker c.begin_with.new.files c.put_search.new.out (handed-keeps _ _ _ c.in-Err.ensures.err.handed) c.put_search.ensures.faults.later)
