@@ -1,11 +1,11 @@
 //! The check of the logs of all parts.
-ghost use Rattle.std.specs.Prelude.{◌≡◌, ◌⊎◌, ◌↔◌, true, ◌≤◌, ◌<◌, ◌^◌, ◌-◌, ℕ, [], ◌∷◌, ◌++◌, IsTrue, IfOk, IfSome, OnOk, Err};
+ghost use Rattle.std.specs.Prelude.{◌≡◌, ◌⊎◌, ◌↔◌, true, ◌≤◌, ◌<◌, ◌^◌, ◌-◌, [], ◌∷◌, ◌++◌, IsTrue, IfOk, IfSome, OnOk, Err};
 ghost use Rattle.stn_edge.specs.Count.{Rose};
 ghost use Rattle.stn_model.specs.Points.{depth_limit};
 ghost use Rattle.proof_log.specs.LogNames.{log_name};
-ghost use Rattle.log_parts.specs.PartLogs.{logs_of};
+ghost use Rattle.log_parts.specs.PartLogs.{MayReadParts, logs_of};
 ghost use Rattle.log_parts.specs.declared.heads.LogFront.TheVariants.{Whole};
-ghost use Rattle.log_parts.specs.laws.Checked.{AreChecked, AllSay, IsFrontKept, IsFrontOf, IsHeadKept, IsLogFront, IsPartCheck, PartSays, head_limits};
+ghost use Rattle.log_parts.specs.laws.Checked.{AreCheckedIn, AllSay, IsFrontKept, IsFrontOf, IsHeadKept, IsLogFront, IsPartCheck, PartSays, head_limits};
 ghost use Rattle.store_frames.specs.Frames.{OnlyReads};
 ghost use Rattle.joined_parts.specs.laws.Divided.{IsDivided};
 
@@ -33,10 +33,8 @@ pub(crate) fn check_parts<F: Shelf>(
     stem: &str,
 ) -> Result<Checked, CheckStop>
     requires divided { IsDivided plant.now levels }
-    requires allowed { (part : ℕ) → part < 2 ^ levels
-        → IsTrue (F.may_read files.old (log_name stem.now part)) }
-    ensures checked { IfOk result (λ said. IfSome (F.files files.old)
-        (λ m. AreChecked plant.now levels (logs_of m stem.now) said)) }
+    requires allowed { MayReadParts (F.may_read files.old) stem.now levels }
+    ensures checked { IfOk result (AreCheckedIn plant.now levels stem.now (F.files files.old)) }
     ensures says { IfOk result (AllSay plant.now levels) }
     ensures fault { result ≡ Err CheckStop.Fault
         → Rose (F.read_faults files.old) (F.read_faults files.new) }
@@ -61,13 +59,11 @@ fn check_logs<F: Shelf>(
     stem: &str,
 ) -> Result<Checked, CheckStop>
     requires divided { IsDivided plant.now levels }
-    requires allowed { (part : ℕ) → part < 2 ^ levels
-        → IsTrue (F.may_read files.old (log_name stem.now part)) }
+    requires allowed { MayReadParts (F.may_read files.old) stem.now levels }
     requires kept { IsHeadKept plant.now (head_limits plant.now levels) first }
     requires first { IfSome (F.files files.old)
         (λ m. IsLogFront plant.now (head_limits plant.now levels) (logs_of m stem.now 0) (Whole first)) }
-    ensures checked { IfOk result (λ said. IfSome (F.files files.old)
-        (λ m. AreChecked plant.now levels (logs_of m stem.now) said)) }
+    ensures checked { IfOk result (AreCheckedIn plant.now levels stem.now (F.files files.old)) }
     ensures says { IfOk result (AllSay plant.now levels) }
     ensures fault { result ≡ Err CheckStop.Fault
         → Rose (F.read_faults files.old) (F.read_faults files.new) }

@@ -1,10 +1,10 @@
 //! The search from a log, and what it comes to.
-ghost use Rattle.std.specs.Prelude.{◌≡◌, IsTrue, IfOk};
+ghost use Rattle.std.specs.Prelude.{◌≡◌, IfOk};
 ghost use Rattle.branch_tree.specs.Searched.{IsSearchable};
 ghost use Rattle.branch_tree.specs.laws.Going.{CanGoOn};
-ghost use Rattle.store_frames.specs.Frames.{ReadsAndWritesOne, WritesOne};
+ghost use Rattle.store_frames.specs.Frames.{ReadsAndWritesOne};
 ghost use Rattle.resumed_log.specs.laws.Beside.{out_name};
-ghost use Rattle.resumed_log.specs.laws.Stops.{Stops, StopsWriting};
+ghost use Rattle.resumed_log.specs.laws.Stops.{Stops};
 ghost use Rattle.resumed_log.specs.laws.Walks.{CanWriteBeside};
 
 use crate::claiming::{claim_of, exceeds, within};
@@ -110,7 +110,7 @@ pub fn write_with<H: Hinter + Drop, G: EndGuide + Drop, F: Shelf>(
     write_course(alloc, task, files, course, claim)
 }
 
-// Writes what comes behind the head.
+// Writes what comes behind the head: the proof, and the claim of what was come to.
 fn write_course<H: Hinter + Drop, G: EndGuide + Drop, F: Shelf>(
     alloc: Global,
     task: Task,
@@ -126,7 +126,22 @@ fn write_course<H: Hinter + Drop, G: EndGuide + Drop, F: Shelf>(
 {
     let mut course = course;
     write_proof(alloc, task, files, &mut course)?;
-    end_course(alloc, task, files, course, claim)
+    let cap = within(course.cap, claim);
+    let exact = is_exact(&task, &course.going, cap);
+    let best = copied(alloc, course.going.best())?;
+    let claim = claim_of(best, cap);
+    let Course {
+        going,
+        hinter,
+        guide,
+        out,
+        ..
+    } = course;
+    let_go(going);
+    let_go(hinter);
+    let_go(guide);
+    finish(out, files, &claim)?;
+    Ok(Written { exact, claim })
 }
 
 // Writes the proof of the new log.
@@ -160,34 +175,4 @@ fn is_exact(task: &Task, going: &GoingOn, cap: Capped) -> bool {
         return true;
     }
     going.left() == 0 || task.pair.share.is_some()
-}
-
-// Ends the new log with the claim of what was come to.
-fn end_course<H: Hinter + Drop, G: EndGuide + Drop, F: Shelf>(
-    alloc: Global,
-    task: Task,
-    files: &mut F,
-    course: Course<H, G>,
-    claim: &Claim,
-) -> Result<Written, WalkStop>
-    requires may_write { IsTrue (F.may_write files.old (out_name course.out)) }
-    ensures frame { WritesOne F.Shelf (out_name course.entry.out) files.old files.new }
-    ensures stops { StopsWriting F.Shelf result files.old files.new }
-{
-    let cap = within(course.cap, claim);
-    let exact = is_exact(&task, &course.going, cap);
-    let best = copied(alloc, course.going.best())?;
-    let claim = claim_of(best, cap);
-    let Course {
-        going,
-        hinter,
-        guide,
-        out,
-        ..
-    } = course;
-    let_go(going);
-    let_go(hinter);
-    let_go(guide);
-    finish(out, files, &claim)?;
-    Ok(Written { exact, claim })
 }

@@ -108,7 +108,8 @@ fn values_of(alloc: Global, found: &Option<Found>) -> Result<Vec<u8>, AllocError
     }
 }
 
-// Searches on from what was found in the old log, and writes the new one.
+// Searches on from what was found in the old log, and writes the new one: with advice, and where that leaves boxes open though budget is
+// left, anew without it.
 fn search_on<A: EndAdvisers, F: Shelf>(
     alloc: Global,
     task: Task,
@@ -127,7 +128,9 @@ fn search_on<A: EndAdvisers, F: Shelf>(
     if written.exact {
         return Ok(());
     }
-    search_anew::<A, _>(alloc, task, files, best_of(written.claim), &claim)
+    let plain = plain_advice::<A>(alloc, task)?;
+    write_with(alloc, task, files, best_of(written.claim), &claim, plain)?;
+    Ok(())
 }
 
 // The advice for the search from these ends and the best point.
@@ -157,26 +160,15 @@ fn sought_from<'a>(task: Task<'a>, start: &'a [u8]) -> Sought<'a> {
     }
 }
 
-// Searches on without advice on which ends, and writes the log anew.
-fn search_anew<A: EndAdvisers, F: Shelf>(
+// No advice on which ends.
+fn plain_advice<A: EndAdvisers>(
     alloc: Global,
     task: Task,
-    files: &mut F,
-    best: Option<Found>,
-    claim: &Claim,
-) -> Result<(), WalkStop>
-    requires searchable { IsSearchable task.pair.most task.pair.rows.now.program }
-    requires beside { CanWriteBeside (F.may_read files.old) (F.may_write files.old)
-        task.pair.log.now task.pair.out.now }
-    ensures frame { ReadsAndWritesOne F.Shelf task.entry.pair.out.now files.old files.new }
-    ensures stops { Stops F.Shelf result files.old files.new }
-{
+) -> Result<Advice<A::Hinter, A::Guide>, AllocError> {
     let (guide, hinter) = A::in_order(alloc, &sought_from(task, &[]))?;
-    let advice = Advice {
+    Ok(Advice {
         hinter,
         guide,
         plan: Vec::new(alloc),
-    };
-    write_with(alloc, task, files, best, claim, advice)?;
-    Ok(())
+    })
 }
