@@ -3,8 +3,9 @@ use Rattle.std.specs.Prelude.{◌≡◌, ◌≢◌, ◌≤◌, ℕ, List, Option
 use Rattle.stn_edge.specs.Files.{FileMap, OthersStay}
 use Rattle.stn_edge.specs.declared.shelf.Shelf.{Ghosts}
 use Rattle.command_replies.specs.declared.stopped.Stopped.{Stopped}
-use Rattle.command_replies.specs.declared.stopped.Stopped.TheVariants.{WriteFault}
+use Rattle.command_replies.specs.declared.stopped.Stopped.TheVariants.{ReadFault, WriteFault}
 use Rattle.command_replies.specs.Frames.{HadWriteFault}
+use Rattle.command_replies.specs.Sources.{IfRefused}
 use Rattle.planning_commands.specs.NamedLog.{LogLeft}
 
 -- a call that only writes: what may be read and written is as before; no read has failed, writes may have
@@ -23,3 +24,11 @@ pub record WritesLog {F X : Type 0} (S : Ghosts F) (log : Option (List ℕ)) (ol
 -- every file but the log that is named is as it was
 abbrev pub OthersLeft : Option (List ℕ) → Option FileMap → Option FileMap → Type 0
 OthersLeft log old new = LogLeft log (λ name. OthersStay name old new) old new
+
+-- planning of what was read: it refuses nothing, no read fails, a write only where a log is named, and no other file changes
+pub record OnlyPlans {F X : Type 0} (S : Ghosts F) (log : Option (List ℕ)) (old new : F) (result : Result X Stopped) : Type 0 where
+  pub none : IfRefused result (λ _. ⊥)
+  pub no_fault : result ≢ Err ReadFault
+  pub writing : WritesLog S log old new result
+  pub others : OthersLeft log (S.files old) (S.files new)
+  pub kept : OnlyWrites S old new
