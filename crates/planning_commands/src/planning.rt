@@ -15,7 +15,7 @@ ghost use Rattle.answer_texts.specs.Planning.{
   answer_text,
   status_of,
 };
-ghost use Rattle.planning_commands.specs.Frames.{OnlyPlans};
+ghost use Rattle.planning_commands.specs.Frames.{MayPlan, OnlyPlans};
 ghost use Rattle.planning_commands.specs.Improving.{IsGivenOutcome};
 ghost use Rattle.planning_commands.specs.NamedLog.{LogLeft, told_log};
 ghost use Rattle.planning_commands.specs.Replanning.{IsBegunOutcome, LeavesPartLog};
@@ -42,9 +42,7 @@ pub fn plan_plant<A: Advisers, F: Shelf>(
     budget: Budget,
     log: Option<&str>,
 ) -> Result<Reply, Stopped>
-    requires sound { Sound plant.now }
-    requires short { length start.now < 2 ^ 32 }
-    requires allowed { IfSome (named_log log) (λ name. IsTrue (F.may_write files.old name)) }
+    requires { MayPlan F.Shelf plant.now start.now (named_log log) files.old }
     ensures answer { IfOk result (λ reply. Planned plant.now (counted_since since start.now)
         (IsGivenOutcome plant.now start.now budget.boxes)
         (HasPlantProof plant.now (told_log (named_log log.entry) (F.files files.new)))

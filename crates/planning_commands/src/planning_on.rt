@@ -9,7 +9,7 @@ ghost use Rattle.command_replies.specs.Frames.{HadReadFault};
 ghost use Rattle.store_frames.specs.Frames.{ReadsAndWrites};
 ghost use Rattle.command_replies.specs.Answers.{IsPlanAnswer, IsUnwritten};
 ghost use Rattle.command_replies.specs.Sources.{IfReplied, IsReadOf};
-ghost use Rattle.planning_commands.specs.Frames.{OnlyPlans, OthersLeft, WritesLog};
+ghost use Rattle.planning_commands.specs.Frames.{MayPlan, OnlyPlans, OthersLeft, WritesLog};
 ghost use Rattle.planning_commands.specs.NamedLog.{LogLeft, told_log};
 ghost use Rattle.planning_commands.specs.PlanningOn.{CanGoOn, CanBePlanned, HoldsOn, LeftOn, PlannedOn};
 
@@ -107,9 +107,7 @@ fn go_on<A: Advisers, F: Shelf>(
     budget: Budget,
     log: Option<&str>,
 ) -> Result<Reply, Stopped>
-    requires sound { Sound plant.now }
-    requires short { length plan.now < 2 ^ 32 }
-    requires allowed { IfSome (named_log log) (λ name. IsTrue (F.may_write files.old name)) }
+    requires { MayPlan F.Shelf plant.now plan.now (named_log log) files.old }
     ensures answer { IfOk result (λ reply. PlannedOn kept budget.boxes plant.now plan.now
         (told_log (named_log log.entry) (F.files files.new)) (F.files files.new ≡ F.files files.old)
         reply.status reply.text.items) }
