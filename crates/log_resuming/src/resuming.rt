@@ -7,6 +7,7 @@ ghost use Rattle.stn_model.specs.Sound.{Sound};
 ghost use Rattle.log_nodes.specs.declared.pair.Share.{Share};
 ghost use Rattle.valid_log.specs.declared.verdict.LogVerdict.TheVariants.{Yes};
 ghost use Rattle.valid_log.specs.PlantLogs.{IsAnyChecked};
+ghost use Rattle.log_parts.specs.Stops.{Stops, StopsReading};
 ghost use Rattle.log_resuming.specs.Resumed.{IsResumingIn, LeavesResumed, ResumedSays};
 
 use crate::judging::{Judged, judge};
@@ -92,10 +93,7 @@ fn go_on<A: EndAdvisers, F: Shelf>(
     ensures resumed { IfOk result (IsResumingIn plant.now going.entry.budget going.entry.share
         going.entry.log.now going.entry.out.now (F.files files.old) (F.files files.new)) }
     ensures frame { ReadsAndWritesOne F.Shelf going.entry.out.now files.old files.new }
-    ensures read_fault { result ≡ Err JoinStop.ReadFault
-        → Rose (F.read_faults files.old) (F.read_faults files.new) }
-    ensures write_fault { result ≡ Err JoinStop.WriteFault
-        → Rose (F.write_faults files.old) (F.write_faults files.new) }
+    ensures stops { Stops F.Shelf result files.old files.new }
 {
     let Some(opened) = open_log(alloc, plant, files, going.log)? else {
         return look_again(alloc, plant, files, going);
@@ -123,9 +121,7 @@ fn look_again<F: Shelf>(
         (F.files files.old) (F.files files.new)) }
     ensures says { IfOk result (ResumedSays plant.now) }
     ensures frame { OnlyReads F.Shelf files.old files.new }
-    ensures read_fault { result ≡ Err JoinStop.ReadFault
-        → Rose (F.read_faults files.old) (F.read_faults files.new) }
-    ensures no_fault { result ≢ Err JoinStop.WriteFault }
+    ensures stops { StopsReading F.Shelf result files.old files.new }
 {
     let LogVerdict::No(defect) = check_stream(alloc, plant, files, going.log)? else {
         return Err(JoinStop::Memory);
@@ -146,10 +142,7 @@ fn write_out<A: EndAdvisers, F: Shelf>(
     requires out_writable { IsTrue (F.may_write files.old going.out.now) }
     requires apart { going.out.now ≢ going.log.now }
     ensures frame { ReadsAndWritesOne F.Shelf going.entry.out.now files.old files.new }
-    ensures read_fault { result ≡ Err JoinStop.ReadFault
-        → Rose (F.read_faults files.old) (F.read_faults files.new) }
-    ensures write_fault { result ≡ Err JoinStop.WriteFault
-        → Rose (F.write_faults files.old) (F.write_faults files.new) }
+    ensures stops { Stops F.Shelf result files.old files.new }
 {
     let head = head_text(alloc, &opened.head.declared)?;
     let task = Task {

@@ -19,10 +19,11 @@ ghost use Rattle.valid_log.specs.AnyVersion.{
   IsSetUpVerdict,
   IsTailVerdict,
 };
-ghost use Rattle.plant_check.specs.Heads.{IsHeadHeld, IsTailHeld};
+ghost use Rattle.plant_check.specs.Heads.{IsTailHeld};
 ghost use Rattle.what_if.specs.laws.Judged.{
   IsAnyOwnLog,
   IsHeadOf,
+  IsInFront,
   IsSetUpLog,
   IsStopInFile,
   IsTailedLog,
@@ -77,12 +78,7 @@ fn set_up_log(
     setups: Setups,
     bytes: &[u8],
 ) -> Result<ValidLog, LogStop>
-    requires sound { Sound plant.now }
-    requires part { IsPartOf plant.now program }
-    requires ranges { AreRanges program ranges.now }
-    requires held { IsHeadHeld plant.now program (depth_limit plant.now) setups }
-    requires some { 1 ≤ setups.head.bytes }
-    requires within { setups.head.bytes ≤ length bytes.now }
+    requires front { IsInFront plant.now program ranges.now setups bytes.now }
     ensures log { IfOk result (IsSetUpLog plant.now program ranges.now bytes.now setups) }
     ensures defect { (defect : Defect) → result ≡ Err (LogStop.Defect defect)
         → IsSetUpVerdict plant.now program ranges.now (depth_limit plant.now) bytes.now setups
@@ -104,12 +100,7 @@ fn tailed_log(
     tail: Tail,
     bytes: &[u8],
 ) -> Result<ValidLog, LogStop>
-    requires sound { Sound plant.now }
-    requires part { IsPartOf plant.now program }
-    requires ranges { AreRanges program ranges.now }
-    requires held { IsHeadHeld plant.now program (depth_limit plant.now) setups }
-    requires some { 1 ≤ setups.head.bytes }
-    requires within { setups.head.bytes ≤ length bytes.now }
+    requires front { IsInFront plant.now program ranges.now setups bytes.now }
     requires follows { IsTail setups.limits setups.head bytes.now (Whole tail) }
     requires tailed { IsTailHeld setups.limits setups.head tail }
     ensures log { IfOk result (IsTailedLog plant.now program ranges.now bytes.now setups tail) }

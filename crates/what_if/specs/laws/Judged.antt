@@ -1,9 +1,12 @@
 -- Stands in specs/ since clauses of private functions cite it; no public clause does.
-use Rattle.std.specs.Prelude.{◌≡◌, ◌==◌, ℕ, false, List, [], length, None}
+use Rattle.std.specs.Prelude.{◌≡◌, ◌≤◌, ◌==◌, ℕ, false, List, [], length, None}
 use Rattle.stn_model.specs.Points.{depth_limit}
 use Rattle.stn_model.specs.declared.plant.Plant.{Plant}
+use Rattle.stn_model.specs.Sound.{Sound}
 use Rattle.row_kit.specs.declared.domain.Domain.{Domain}
 use Rattle.row_kit.specs.declared.program.Program.{Program}
+use Rattle.row_set.specs.Parts.{IsPartOf}
+use Rattle.sum_slots.specs.Shown.{AreRanges}
 use Rattle.proof_tree.specs.Tree.{tree_of}
 use Rattle.row_relax.specs.declared.rows.Rows.{Rows}
 use Rattle.row_relax.specs.RowProofs.{RowTree}
@@ -20,6 +23,7 @@ use Rattle.valid_log.specs.AnyVersion.{IsAnyLog, IsAnyVerdict, given_claim, in_f
 use Rattle.setup_lines.specs.declared.setups.Setups.{Setups}
 use Rattle.derivation_lines.specs.declared.tail.Tail.{Tail}
 use Rattle.derivation_lines.specs.declared.tail.TailFront.TheVariants.{Whole}
+use Rattle.plant_check.specs.Heads.{IsHeadHeld}
 use Rattle.what_if.specs.declared.old.LogHead.{LogHead}
 use Rattle.what_if.specs.declared.old.ValidLog.{ValidLog}
 use Rattle.what_if.specs.Estimate.{AreTaken}
@@ -46,6 +50,15 @@ pub record IsAnyOwnLog (plant : Plant) (program : Program) (ranges : List Domain
 -- a stop behind a head of so many lines, by the lines of the file
 abbrev pub IsStopInFile : ℕ → LogStop → LogStop → Type 0
 IsStopInFile count own stop = (defect : Defect) → stop ≡ StopDefect defect → (before : Defect) × ((own ≡ StopDefect before) × (defect ≡ in_file count before))
+
+-- a head with these setups stands in front of the bytes, over a part of a sound plant's choices and domains in which its points lie
+pub record IsInFront (plant : Plant) (program : Program) (domains : List Domain) (setups : Setups) (bytes : List ℕ) : Type 0 where
+  pub sound : Sound plant
+  pub part : IsPartOf plant program
+  pub ranges : AreRanges program domains
+  pub held : IsHeadHeld plant program (depth_limit plant) setups
+  pub some : 1 ≤ setups.head.bytes
+  pub within : setups.head.bytes ≤ length bytes
 
 -- a log has no head
 pub record IsNoHead (head : LogHead) : Type 0 where

@@ -12,26 +12,27 @@ use Rattle.plant_check.proofs.HeadJudged.{held_of}
 use Rattle.what_if.proofs.OldLogs.{head_within, headed_valid_if, setups_within}
 use Rattle.what_if.proofs.headed.headed_log.Goals as goal
 
-pub set_up_log-requires-clause-held : goal.set_up_log-requires-clause-held
-set_up_log-requires-clause-held c =
+pub set_up_log-requires : goal.set_up_log-requires
+set_up_log-requires c =
+    let plant = c.args.plant.now in
+    let depth = depth_limit plant in
+    let head = c.args.head in
     let setups = c.in-Whole.setups in
-    let sizes = setup_sizes c.args.plant.now in
-    let held = subst (AreSetupsHeld c.plant_limits-limits.result sizes c.args.head) c.in-Whole.is c.in_ok-setups.ensures.held in
-    held_of c.args.plant.now c.args.program (depth_limit c.args.plant.now) c.args.head setups c.requires.kept (subst (λ (limits : Limits). IsSetupsHeld limits sizes c.args.head setups) (c.plant_limits-limits.ensures ∙ ap (limits_with c.args.program (depth_limit c.args.plant.now)) c.len.ensures) held)
-
-pub set_up_log-requires-clause-some : goal.set_up_log-requires-clause-some
-set_up_log-requires-clause-some c =
-    let setups = c.in-Whole.setups in
-    let held = subst (AreSetupsHeld c.plant_limits-limits.result (setup_sizes c.args.plant.now) c.args.head) c.in-Whole.is c.in_ok-setups.ensures.held in
-    let own : setups.head.bytes ≡ c.args.head.bytes + length (setups_text setups.units) = ap (λ (s : Setups). s.head.bytes) held.kept.is in
-    omega (arith, own, c.requires.kept.bytes_least)
-
-pub set_up_log-requires-clause-within : goal.set_up_log-requires-clause-within
-set_up_log-requires-clause-within c =
-    let setups = c.in-Whole.setups in
-    let sizes = setup_sizes c.args.plant.now in
-    let stands = subst (AreSetups c.plant_limits-limits.result sizes c.args.head c.args.bytes.now) c.in-Whole.is c.in_ok-setups.ensures.stands in
-    setups_within c.plant_limits-limits.result sizes c.args.head c.args.bytes.now setups stands (head_within c.args.program (depth_limit c.args.plant.now) c.args.bytes.now c.args.head c.requires.stands)
+    let sizes = setup_sizes plant in
+    let limits = c.plant_limits-limits.ensures ∙ ap (limits_with c.args.program depth) c.len.ensures in
+    let held = subst (AreSetupsHeld c.plant_limits-limits.result sizes head) c.in-Whole.is c.in_ok-setups.ensures.held in
+    let stands = subst (AreSetups c.plant_limits-limits.result sizes head c.args.bytes.now) c.in-Whole.is c.in_ok-setups.ensures.stands in
+    let own : setups.head.bytes ≡ head.bytes + length (setups_text setups.units) = ap (λ (s : Setups). s.head.bytes) held.kept.is in
+    record {
+      front = record {
+        sound = c.requires.sound;
+        part = c.requires.part;
+        ranges = c.requires.ranges;
+        held = held_of plant c.args.program depth head setups c.requires.kept (subst (λ (limits : Limits). IsSetupsHeld limits sizes head setups) limits held);
+        some = omega (arith, own, c.requires.kept.bytes_least);
+        within = setups_within c.plant_limits-limits.result sizes head c.args.bytes.now setups stands (head_within c.args.program depth c.args.bytes.now head c.requires.stands);
+      };
+    }
 
 pub returns-in-Whole-clause-log : goal.returns-in-Whole-clause-log
 returns-in-Whole-clause-log c =

@@ -8,7 +8,7 @@ use Rattle.what_if.proofs.OldLogs.{set_up_valid}
 use Rattle.what_if.proofs.headed.set_up_log.Goals as goal
 
 pub tail_of-requires-clause-rows : goal.tail_of-requires-clause-rows
-tail_of-requires-clause-rows c = let small = held_small c.args.plant.now c.args.program (depth_limit c.args.plant.now) c.args.setups c.requires.held in omega (arith, small.rows)
+tail_of-requires-clause-rows c = let small = held_small c.args.plant.now c.args.program (depth_limit c.args.plant.now) c.args.setups c.requires.front.held in omega (arith, small.rows)
 
 pub returns-in-Whole-clause-log : goal.returns-in-Whole-clause-log
 returns-in-Whole-clause-log c =

@@ -11,19 +11,19 @@ use Rattle.what_if.proofs.OldLogs.{shown_defect, tail_within, tailed_valid, unsh
 use Rattle.what_if.proofs.headed.tailed_log.Goals as goal
 
 pub limits_behind-limits-requires-clause-rows : goal.limits_behind-limits-requires-clause-rows
-limits_behind-limits-requires-clause-rows c = let small = held_small c.args.plant.now c.args.program (depth_limit c.args.plant.now) c.args.setups c.requires.held in omega (arith, small.rows)
+limits_behind-limits-requires-clause-rows c = let small = held_small c.args.plant.now c.args.program (depth_limit c.args.plant.now) c.args.setups c.requires.front.held in omega (arith, small.rows)
 
 pub limits_behind-limits-requires-clause-derived : goal.limits_behind-limits-requires-clause-derived
-limits_behind-limits-requires-clause-derived c = omega (arith, few_derived c.args.plant.now c.args.program (depth_limit c.args.plant.now) c.args.setups c.args.tail c.requires.held c.requires.tailed)
+limits_behind-limits-requires-clause-derived c = omega (arith, few_derived c.args.plant.now c.args.program (depth_limit c.args.plant.now) c.args.setups c.args.tail c.requires.front.held c.requires.tailed)
 
 pub behind-requires-clause-some : goal.behind-requires-clause-some
-behind-requires-clause-some c = omega (arith, c.requires.some, c.requires.tailed.kept.bytes_least)
+behind-requires-clause-some c = omega (arith, c.requires.front.some, c.requires.tailed.kept.bytes_least)
 
 pub behind-requires-clause-within : goal.behind-requires-clause-within
-behind-requires-clause-within c = tail_within c.args.setups.limits c.args.setups.head c.args.bytes.now c.args.tail c.requires.follows c.requires.within
+behind-requires-clause-within c = tail_within c.args.setups.limits c.args.setups.head c.args.bytes.now c.args.tail c.requires.follows c.requires.front.within
 
 pub judge_head-requires-clause-held : goal.judge_head-requires-clause-held
-judge_head-requires-clause-held c = subst (λ (depth : ℕ). IsHeadHeld c.args.plant.now c.args.program depth c.args.setups) (sym c.depth_limit.ensures) c.requires.held
+judge_head-requires-clause-held c = subst (λ (depth : ℕ). IsHeadHeld c.args.plant.now c.args.program depth c.args.setups) (sym c.depth_limit.ensures) c.requires.front.held
 
 pub returns-in-Err-clause-defect : goal.returns-in-Err-clause-defect
 returns-in-Err-clause-defect c defect is =
@@ -41,7 +41,7 @@ returns-in_ok-given_log-in-Ok-own_log-clause-log c =
     let log = c.in-Ok-own_log.log in
     let given = c.in_ok-given_log-in-Ok-own_log.field-0 in
     let enlarged = subst (IsJudged c.args.plant.now program c.args.ranges.now setups c.args.tail) c.in-Ok.is c.in_ok-defect.ensures in
-    tailed_valid c.args.plant.now program c.args.ranges.now c.args.bytes.now setups c.args.tail rows log given c.requires.held c.requires.tailed enlarged
+    tailed_valid c.args.plant.now program c.args.ranges.now c.args.bytes.now setups c.args.tail rows log given c.requires.front.held c.requires.tailed enlarged
     (subst (λ (text : List ℕ). IsOwnLog rows (depth_limit c.args.plant.now) text (tree_of log.tree) log.claim) (c.as_slice-in-Ok.ensures.value ∙ c.in_ok-rest.ensures) c.in-Ok-own_log.ensures.log)
     c.in_ok-given_log-in-Ok-own_log.ensures.head c.in_ok-given_log-in-Ok-own_log.ensures.tree
     (subst (λ (n : ℕ). given.claim ≡ given_claim n log.claim) c.len-slots.ensures c.in_ok-given_log-in-Ok-own_log.ensures.claim)
