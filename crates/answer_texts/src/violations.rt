@@ -14,6 +14,7 @@ ghost use Rattle.answer_texts.specs.Violations.{
 };
 
 use plan_violations::{Breach, Misfit, violations};
+use plant_labels::{state_name, utility_name};
 use std::alloc::{AllocError, Global};
 use stn_model::{Plant, Start};
 
@@ -171,22 +172,4 @@ fn named_by(
     let end = format!(in alloc; " {number} by {amount}\n")?;
     text.extend_from_slice(end.as_bytes())?;
     Ok(text)
-}
-
-fn state_name(plant: &Plant, state: u32) -> &[u8]
-    ensures { result.now ≡ (state_at plant.now state).name }
-{
-    match plant.states.as_slice().get(state as usize) {
-        Some(state) => state.name.as_slice(),
-        None => &[],
-    }
-}
-
-fn utility_name(plant: &Plant, utility: u32) -> &[u8]
-    ensures { result.now ≡ (utility_at plant.now utility).name }
-{
-    match plant.utilities.as_slice().get(utility as usize) {
-        Some(utility) => utility.name.as_slice(),
-        None => &[],
-    }
 }

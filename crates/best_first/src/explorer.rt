@@ -51,8 +51,9 @@ const SELDOM: u32 = 32;
 // How many boxes are explored at most for each that may be counted.
 const MOST_LOOKS: u32 = 4;
 
-/// Searches a program best first, until the tree that is left counts so many boxes, or is closed. Four times as many boxes are explored at most, and none once what is held comes
-/// to some 2 GiB. Where that comes no further, trees of their own are explored towards worths that no plan has yet (`Aims`).
+/// Searches a program best first, until the tree that is left counts so many boxes, or is closed. Four times as many boxes are
+/// explored at most, and none once what is held comes to some 2 GiB. Where that comes no further, trees of their own are explored
+/// towards worths that no plan has yet (`Aims`).
 pub fn explore(alloc: Global, sought: &Sought, budget: u32) -> Result<Explored, AllocError> {
     let tree = Tree::new(alloc, sought.program)?;
     let explorer = Explorer::new(alloc, sought, tree, 0)?;

@@ -15,6 +15,7 @@ ghost use Rattle.listing_commands.specs.Numbering.{
   row_lines,
 };
 
+use plant_labels::{state_name, task_name, unit_name, utility_name};
 use row_names::RowName;
 use std::alloc::{AllocError, Global};
 use stn_model::Plant;
@@ -193,40 +194,4 @@ fn push_gap(
     text.extend_from_slice(unit)?;
     let end = format!(in alloc; " {first} {second}\n")?;
     text.extend_from_slice(end.as_bytes())
-}
-
-fn unit_name(plant: &Plant, unit: u32) -> &[u8]
-    ensures { result.now ≡ (unit_at plant.now unit).name }
-{
-    match plant.units.as_slice().get(unit as usize) {
-        Some(unit) => unit.name.as_slice(),
-        None => &[],
-    }
-}
-
-fn task_name(plant: &Plant, task: u32) -> &[u8]
-    ensures { result.now ≡ (task_at plant.now task).name }
-{
-    match plant.tasks.as_slice().get(task as usize) {
-        Some(task) => task.name.as_slice(),
-        None => &[],
-    }
-}
-
-fn state_name(plant: &Plant, state: u32) -> &[u8]
-    ensures { result.now ≡ (state_at plant.now state).name }
-{
-    match plant.states.as_slice().get(state as usize) {
-        Some(state) => state.name.as_slice(),
-        None => &[],
-    }
-}
-
-fn utility_name(plant: &Plant, utility: u32) -> &[u8]
-    ensures { result.now ≡ (utility_at plant.now utility).name }
-{
-    match plant.utilities.as_slice().get(utility as usize) {
-        Some(utility) => utility.name.as_slice(),
-        None => &[],
-    }
 }

@@ -1,7 +1,7 @@
 //! What all rows of a band share: the axis of times, and names.
 ghost use Rattle.std.specs.Prelude.{◌≡◌, ◌≤◌, ◌+◌, ◌^◌, ◌++◌, OnOk};
 ghost use Rattle.stn_model.specs.Sound.{Sound};
-ghost use Rattle.plan_picture.specs.Chart.{time_mark, time_marks, part_head, time_line, time_lines, grid, row_name};
+ghost use Rattle.plan_picture.specs.Chart.{time_mark, time_marks, part_head, time_line, grid, row_name};
 
 use crate::marks::{push_fitted, push_words};
 use crate::scale::{periods_in, x_at};
@@ -64,7 +64,7 @@ fn push_time_mark(
 }
 
 /// Appends the lines of all times of a band, down to this height.
-#[tactic(auto, unfolding(crate::specs::Chart::grid))]
+#[tactic(auto, unfolding(crate::specs::Chart::grid), using(crate::proofs::Ranges::pieces_next))]
 pub fn push_grid(
     alloc: Global,
     text: &mut Vec<u8>,
@@ -77,27 +77,10 @@ pub fn push_grid(
     ensures { OnOk result (text.new.items ≡ text.old.items ++ grid plant.now band height) }
 {
     text.extend_from_slice("<path class=\"grid\" d=\"".as_bytes())?;
-    push_time_lines(alloc, text, plant, band, height)?;
-    text.extend_from_slice("\"/>\n".as_bytes())
-}
-
-#[tactic(auto, using(crate::proofs::Ranges::pieces_next))]
-fn push_time_lines(
-    alloc: Global,
-    text: &mut Vec<u8>,
-    plant: &Plant,
-    band: u32,
-    height: u64,
-) -> Written
-    requires sound { Sound plant.now }
-    requires there { band ≤ 7 }
-    ensures { OnOk result (text.new.items
-        ≡ text.old.items ++ time_lines plant.now band height) }
-{
     for place in 0..periods_in(plant, band) + 1 {
         push_time_line(alloc, text, plant, height, place)?;
     }
-    Ok(())
+    text.extend_from_slice("\"/>\n".as_bytes())
 }
 
 #[tactic(auto, unfolding(crate::specs::Chart::time_line))]

@@ -30,7 +30,7 @@ ghost use Rattle.plan_tables.specs.Batches.{
 
 use crate::changes::{charge, on_unit};
 use crate::written::Written;
-use plant_labels::{moment_at, push_moment};
+use plant_labels::{moment_at, push_moment, task_name, unit_name};
 use std::alloc::{AllocError, Global};
 use stn_model::{Calendar, Plant, Start, end, run_for};
 
@@ -237,24 +237,6 @@ fn push_costs(alloc: Global, text: &mut Vec<u8>, cost: &i64, charged: u128) -> W
 {
     let cells = format!(in alloc; ",{cost},{charged}")?;
     text.extend_from_slice(cells.as_bytes())
-}
-
-fn unit_name(plant: &Plant, unit: u32) -> &[u8]
-    ensures { result.now ≡ (unit_at plant.now unit).name }
-{
-    match plant.units.as_slice().get(unit as usize) {
-        Some(unit) => unit.name.as_slice(),
-        None => &[],
-    }
-}
-
-fn task_name(plant: &Plant, task: u32) -> &[u8]
-    ensures { result.now ≡ (task_at plant.now task).name }
-{
-    match plant.tasks.as_slice().get(task as usize) {
-        Some(task) => task.name.as_slice(),
-        None => &[],
-    }
 }
 
 // The quantum of a task, in mass units.

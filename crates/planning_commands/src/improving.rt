@@ -1,9 +1,7 @@
 //! `improve`: planning that begins with a plan at hand.
-ghost use Rattle.std.specs.Prelude.{◌≡◌, ◌≢◌, ◌≤◌, ◌<◌, ◌^◌, length, None, Err, IsTrue, IfOk, IfSome};
-ghost use Rattle.stn_model.specs.Sound.{Sound};
+ghost use Rattle.std.specs.Prelude.{◌≡◌, None, Err, IfOk};
 ghost use Rattle.command_words.specs.Words.{named_log};
-ghost use Rattle.command_replies.specs.Sources.{IfRefused};
-ghost use Rattle.planning_commands.specs.Frames.{OnlyWrites, OthersLeft, WritesLog};
+ghost use Rattle.planning_commands.specs.Frames.{MayPlan, OnlyPlans};
 ghost use Rattle.planning_commands.specs.Improving.{Improved};
 ghost use Rattle.planning_commands.specs.NamedLog.{LogLeft, told_log};
 ghost use Rattle.planning_commands.specs.PlanningOn.{CanGoOn, LeftOn};
@@ -27,20 +25,14 @@ pub fn improve<A: Advisers, F: Shelf>(
     budget: Budget,
     log: Option<&str>,
 ) -> Result<Reply, Stopped>
-    requires sound { Sound plant.now }
-    requires short { length plan.now < 2 ^ 32 }
-    requires allowed { IfSome (named_log log) (λ name. IsTrue (F.may_write files.old name)) }
+    requires { MayPlan F.Shelf plant.now plan.now (named_log log) files.old }
     ensures answer { IfOk result (λ reply. Improved budget.boxes plant.now plan.now
         (told_log (named_log log.entry) (F.files files.new)) (F.files files.new ≡ F.files files.old)
         reply.status reply.text.items) }
-    ensures none { IfRefused result (λ _. ⊥) }
-    ensures no_fault { result ≢ Err Stopped.ReadFault }
-    ensures writing { WritesLog F.Shelf (named_log log.entry) files.old files.new result }
     ensures begun { result ≡ Err Stopped.WriteFault → CanGoOn None plant.now plan.now }
     ensures left { LeftOn None plant.now plan.now (named_log log.entry) (F.files files.old)
         (F.files files.new) }
-    ensures others { OthersLeft (named_log log.entry) (F.files files.old) (F.files files.new) }
-    ensures kept { OnlyWrites F.Shelf files.old files.new }
+    ensures plans { OnlyPlans F.Shelf (named_log log.entry) files.old files.new result }
 {
     let simulated = simulate_plan(alloc, PlanUse::Simulate, plant, plan)?;
     if simulated.status == 0 {

@@ -7,7 +7,6 @@ ghost use Rattle.plan_told.specs.Outcomes.{IsPartOutcome};
 ghost use Rattle.plan_told.specs.Proofs.{HasPlantProof, HasProof};
 ghost use Rattle.stn_solve.specs.Begun.{EarnsPoint};
 ghost use Rattle.command_words.specs.Words.{named_log};
-ghost use Rattle.command_replies.specs.Sources.{IfRefused};
 ghost use Rattle.answer_texts.specs.Changed.{counted_since};
 ghost use Rattle.answer_texts.specs.Planning.{
   Planned,
@@ -16,7 +15,7 @@ ghost use Rattle.answer_texts.specs.Planning.{
   answer_text,
   status_of,
 };
-ghost use Rattle.planning_commands.specs.Frames.{OnlyWrites, OthersLeft, WritesLog};
+ghost use Rattle.planning_commands.specs.Frames.{MayPlan, OnlyPlans};
 ghost use Rattle.planning_commands.specs.Improving.{IsGivenOutcome};
 ghost use Rattle.planning_commands.specs.NamedLog.{LogLeft, told_log};
 ghost use Rattle.planning_commands.specs.Replanning.{IsBegunOutcome, LeavesPartLog};
@@ -43,21 +42,15 @@ pub fn plan_plant<A: Advisers, F: Shelf>(
     budget: Budget,
     log: Option<&str>,
 ) -> Result<Reply, Stopped>
-    requires sound { Sound plant.now }
-    requires short { length start.now < 2 ^ 32 }
-    requires allowed { IfSome (named_log log) (λ name. IsTrue (F.may_write files.old name)) }
+    requires { MayPlan F.Shelf plant.now start.now (named_log log) files.old }
     ensures answer { IfOk result (λ reply. Planned plant.now (counted_since since start.now)
         (IsGivenOutcome plant.now start.now budget.boxes)
         (HasPlantProof plant.now (told_log (named_log log.entry) (F.files files.new)))
         reply.status reply.text.items) }
-    ensures none { IfRefused result (λ _. ⊥) }
-    ensures no_fault { result ≢ Err Stopped.ReadFault }
-    ensures writing { WritesLog F.Shelf (named_log log.entry) files.old files.new result }
     ensures left { LogLeft (named_log log.entry)
         (λ name. LeavesPlant plant.now name (F.files files.old)
         (F.files files.new)) (F.files files.old) (F.files files.new) }
-    ensures others { OthersLeft (named_log log.entry) (F.files files.old) (F.files files.new) }
-    ensures kept { OnlyWrites F.Shelf files.old files.new }
+    ensures plans { OnlyPlans F.Shelf (named_log log.entry) files.old files.new result }
 {
     let program = program_of(alloc, plant)?;
     let judged = plant_root(alloc, plant)?;
@@ -91,15 +84,11 @@ pub(crate) fn plan_part<A: Advisers, F: Shelf>(
         (HasProof part.entry.plant.now part.entry.program part.entry.judged part.entry.levels
         (told_log (named_log log.entry) (F.files files.new)))
         reply.status reply.text.items) }
-    ensures none { IfRefused result (λ _. ⊥) }
-    ensures no_fault { result ≢ Err Stopped.ReadFault }
-    ensures writing { WritesLog F.Shelf (named_log log.entry) files.old files.new result }
     ensures left { LogLeft (named_log log.entry)
         (λ name. LeavesPartLog part.entry.plant.now part.entry.program part.entry.judged
         part.entry.levels name (F.files files.old) (F.files files.new))
         (F.files files.old) (F.files files.new) }
-    ensures others { OthersLeft (named_log log.entry) (F.files files.old) (F.files files.new) }
-    ensures kept { OnlyWrites F.Shelf files.old files.new }
+    ensures plans { OnlyPlans F.Shelf (named_log log.entry) files.old files.new result }
 {
     let plant = part.plant;
     let point = point_of(alloc, plant, start)?;
@@ -127,15 +116,11 @@ fn outcome_of<A: Advisers, F: Shelf>(
         (told_log (named_log log.entry) (F.files files.new))) }
     ensures begun { IfOk result
         (λ outcome. EarnsPoint part.entry.program point.now outcome.answer) }
-    ensures none { IfRefused result (λ _. ⊥) }
-    ensures no_fault { result ≢ Err Stopped.ReadFault }
-    ensures writing { WritesLog F.Shelf (named_log log.entry) files.old files.new result }
     ensures left { LogLeft (named_log log.entry)
         (λ name. LeavesPartLog part.entry.plant.now part.entry.program part.entry.judged
         part.entry.levels name (F.files files.old) (F.files files.new))
         (F.files files.old) (F.files files.new) }
-    ensures others { OthersLeft (named_log log.entry) (F.files files.old) (F.files files.new) }
-    ensures kept { OnlyWrites F.Shelf files.old files.new }
+    ensures plans { OnlyPlans F.Shelf (named_log log.entry) files.old files.new result }
 {
     let Some(name) = log else {
         let PlantPart {

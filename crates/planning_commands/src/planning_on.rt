@@ -8,8 +8,8 @@ ghost use Rattle.command_words.specs.Words.{named_log};
 ghost use Rattle.command_replies.specs.Frames.{HadReadFault};
 ghost use Rattle.store_frames.specs.Frames.{ReadsAndWrites};
 ghost use Rattle.command_replies.specs.Answers.{IsPlanAnswer, IsUnwritten};
-ghost use Rattle.command_replies.specs.Sources.{IfReplied, IfRefused, IsReadOf};
-ghost use Rattle.planning_commands.specs.Frames.{OnlyWrites, OthersLeft, WritesLog};
+ghost use Rattle.command_replies.specs.Sources.{IfReplied, IsReadOf};
+ghost use Rattle.planning_commands.specs.Frames.{MayPlan, OnlyPlans, OthersLeft, WritesLog};
 ghost use Rattle.planning_commands.specs.NamedLog.{LogLeft, told_log};
 ghost use Rattle.planning_commands.specs.PlanningOn.{CanGoOn, CanBePlanned, HoldsOn, LeftOn, PlannedOn};
 
@@ -107,20 +107,14 @@ fn go_on<A: Advisers, F: Shelf>(
     budget: Budget,
     log: Option<&str>,
 ) -> Result<Reply, Stopped>
-    requires sound { Sound plant.now }
-    requires short { length plan.now < 2 ^ 32 }
-    requires allowed { IfSome (named_log log) (λ name. IsTrue (F.may_write files.old name)) }
+    requires { MayPlan F.Shelf plant.now plan.now (named_log log) files.old }
     ensures answer { IfOk result (λ reply. PlannedOn kept budget.boxes plant.now plan.now
         (told_log (named_log log.entry) (F.files files.new)) (F.files files.new ≡ F.files files.old)
         reply.status reply.text.items) }
-    ensures none { IfRefused result (λ _. ⊥) }
-    ensures no_fault { result ≢ Err Stopped.ReadFault }
-    ensures writing { WritesLog F.Shelf (named_log log.entry) files.old files.new result }
     ensures begun { result ≡ Err Stopped.WriteFault → CanGoOn kept plant.now plan.now }
     ensures left { LeftOn kept plant.now plan.now (named_log log.entry) (F.files files.old)
         (F.files files.new) }
-    ensures others { OthersLeft (named_log log.entry) (F.files files.old) (F.files files.new) }
-    ensures kept { OnlyWrites F.Shelf files.old files.new }
+    ensures plans { OnlyPlans F.Shelf (named_log log.entry) files.old files.new result }
 {
     match kept {
         Some(period) => replan::<A, _>(alloc, files, plant, plan, period, budget, log),

@@ -1,9 +1,7 @@
 //! `replan`: planning on from the starts of a plan before a period.
-ghost use Rattle.std.specs.Prelude.{◌≡◌, ◌≢◌, ◌≤◌, ◌<◌, ◌^◌, length, None, Some, Err, IsTrue, IfOk, IfSome};
-ghost use Rattle.stn_model.specs.Sound.{Sound};
+ghost use Rattle.std.specs.Prelude.{◌≡◌, Some, Err, IfOk};
 ghost use Rattle.command_words.specs.Words.{named_log};
-ghost use Rattle.command_replies.specs.Sources.{IfRefused};
-ghost use Rattle.planning_commands.specs.Frames.{OnlyWrites, OthersLeft, WritesLog};
+ghost use Rattle.planning_commands.specs.Frames.{MayPlan, OnlyPlans};
 ghost use Rattle.planning_commands.specs.NamedLog.{LogLeft, told_log};
 ghost use Rattle.planning_commands.specs.PlanningOn.{CanGoOn, LeftOn};
 ghost use Rattle.planning_commands.specs.Replanning.{Replanned};
@@ -30,20 +28,14 @@ pub fn replan<A: Advisers, F: Shelf>(
     budget: Budget,
     log: Option<&str>,
 ) -> Result<Reply, Stopped>
-    requires sound { Sound plant.now }
-    requires short { length plan.now < 2 ^ 32 }
-    requires allowed { IfSome (named_log log) (λ name. IsTrue (F.may_write files.old name)) }
+    requires { MayPlan F.Shelf plant.now plan.now (named_log log) files.old }
     ensures answer { IfOk result (λ reply. Replanned budget.boxes plant.now period plan.now
         (told_log (named_log log.entry) (F.files files.new)) (F.files files.new ≡ F.files files.old)
         reply.status reply.text.items) }
-    ensures none { IfRefused result (λ _. ⊥) }
-    ensures no_fault { result ≢ Err Stopped.ReadFault }
-    ensures writing { WritesLog F.Shelf (named_log log.entry) files.old files.new result }
     ensures begun { result ≡ Err Stopped.WriteFault → CanGoOn (Some period) plant.now plan.now }
     ensures left { LeftOn (Some period) plant.now plan.now (named_log log.entry) (F.files files.old)
         (F.files files.new) }
-    ensures others { OthersLeft (named_log log.entry) (F.files files.old) (F.files files.new) }
-    ensures kept { OnlyWrites F.Shelf files.old files.new }
+    ensures plans { OnlyPlans F.Shelf (named_log log.entry) files.old files.new result }
 {
     match keep(alloc, plant, plan, period)? {
         Keeping::Open(rows) => {

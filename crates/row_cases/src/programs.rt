@@ -25,20 +25,21 @@ fn answer_over<'a>(
     let mut area = Area::new(alloc, program)?;
     for step in steps {
         if !is_part(step.verb) {
-            sheet.begin(step);
-            answer_step(alloc, program, &mut area, step.verb, sheet)?;
+            answer_step(alloc, program, &mut area, step, sheet)?;
         }
     }
     Ok(())
 }
 
-fn answer_step(
+fn answer_step<'a>(
     alloc: Global,
     program: &Program,
     area: &mut Area,
-    verb: &str,
-    sheet: &mut Sheet,
+    step: &'a Step<'a>,
+    sheet: &mut Sheet<'a>,
 ) -> Tried {
+    sheet.begin(step);
+    let verb = step.verb;
     match verb {
         "size" | "point" | "lies" | "list" | "entries" => points::answer(
             alloc, program, verb, sheet,

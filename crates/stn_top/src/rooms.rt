@@ -1,10 +1,9 @@
 //! The work on a command, by the crate that its call stands in.
-ghost use Rattle.std.specs.Prelude.{◌≡◌, ◌≢◌, Err};
+ghost use Rattle.std.specs.Prelude.{◌≢◌, Err};
 ghost use Rattle.command_words.specs.Words.{meaning};
 ghost use Rattle.command_replies.specs.Sources.{IfReplied};
 ghost use Rattle.demo_commands.specs.Demo.{Shown};
-ghost use Rattle.stn_top.specs.Requests.{MayRead, MayWrite, WritesApart};
-ghost use Rattle.stn_top.specs.Done.{IsDone};
+ghost use Rattle.stn_top.specs.Done.{HasDone, KeepsLeave, MayBeDone};
 ghost use Rattle.stn_top.specs.Rooms.{IsPlanning, IsReplanning, IsOfHorizons, IsOfConflicts, IsOfPlans, IsOfLogs, IsOfParts, IsResuming};
 
 use best_first::BestFirst;
@@ -29,13 +28,9 @@ pub(crate) fn planning_reply<F: Shelf>(
     files: &mut F,
 ) -> Result<Reply, Stopped>
     requires of { IsPlanning command }
-    requires may_read { MayRead (F.may_read files.old) (meaning command) }
-    requires may_write { MayWrite (F.may_write files.old) (meaning command) }
-    ensures done { IsDone (meaning command.entry) (F.files files.old) (F.files files.new)
-        (F.read_faults files.old) (F.read_faults files.new)
-        (F.write_faults files.old) (F.write_faults files.new) result }
-    ensures readable { F.may_read files.new ≡ F.may_read files.old }
-    ensures writable { F.may_write files.new ≡ F.may_write files.old }
+    requires may { MayBeDone F.Shelf (meaning command) files.old }
+    ensures done { HasDone F.Shelf (meaning command.entry) files.old files.new result }
+    ensures leave { KeepsLeave F.Shelf files.old files.new }
 {
     match command {
         Command::Solve { plant, budget } => solve_file::<BestFirst, _>(
@@ -65,13 +60,9 @@ pub(crate) fn replanning_reply<F: Shelf>(
     files: &mut F,
 ) -> Result<Reply, Stopped>
     requires of { IsReplanning command }
-    requires may_read { MayRead (F.may_read files.old) (meaning command) }
-    requires may_write { MayWrite (F.may_write files.old) (meaning command) }
-    ensures done { IsDone (meaning command.entry) (F.files files.old) (F.files files.new)
-        (F.read_faults files.old) (F.read_faults files.new)
-        (F.write_faults files.old) (F.write_faults files.new) result }
-    ensures readable { F.may_read files.new ≡ F.may_read files.old }
-    ensures writable { F.may_write files.new ≡ F.may_write files.old }
+    requires may { MayBeDone F.Shelf (meaning command) files.old }
+    ensures done { HasDone F.Shelf (meaning command.entry) files.old files.new result }
+    ensures leave { KeepsLeave F.Shelf files.old files.new }
 {
     match command {
         Command::Replan {
@@ -110,13 +101,9 @@ pub(crate) fn horizon_reply<F: Shelf>(
     files: &mut F,
 ) -> Result<Reply, Stopped>
     requires of { IsOfHorizons command }
-    requires may_read { MayRead (F.may_read files.old) (meaning command) }
-    requires may_write { MayWrite (F.may_write files.old) (meaning command) }
-    ensures done { IsDone (meaning command.entry) (F.files files.old) (F.files files.new)
-        (F.read_faults files.old) (F.read_faults files.new)
-        (F.write_faults files.old) (F.write_faults files.new) result }
-    ensures readable { F.may_read files.new ≡ F.may_read files.old }
-    ensures writable { F.may_write files.new ≡ F.may_write files.old }
+    requires may { MayBeDone F.Shelf (meaning command) files.old }
+    ensures done { HasDone F.Shelf (meaning command.entry) files.old files.new result }
+    ensures leave { KeepsLeave F.Shelf files.old files.new }
 {
     match command {
         Command::Least { plant, budget } => seek_file::<BestFirst, _>(alloc, files, plant, budget),
@@ -141,13 +128,9 @@ pub(crate) fn conflict_reply<F: Shelf>(
     files: &mut F,
 ) -> Result<Reply, Stopped>
     requires of { IsOfConflicts command }
-    requires may_read { MayRead (F.may_read files.old) (meaning command) }
-    requires may_write { MayWrite (F.may_write files.old) (meaning command) }
-    ensures done { IsDone (meaning command.entry) (F.files files.old) (F.files files.new)
-        (F.read_faults files.old) (F.read_faults files.new)
-        (F.write_faults files.old) (F.write_faults files.new) result }
-    ensures readable { F.may_read files.new ≡ F.may_read files.old }
-    ensures writable { F.may_write files.new ≡ F.may_write files.old }
+    requires may { MayBeDone F.Shelf (meaning command) files.old }
+    ensures done { HasDone F.Shelf (meaning command.entry) files.old files.new result }
+    ensures leave { KeepsLeave F.Shelf files.old files.new }
 {
     match command {
         Command::Conflict { plant, budget } => find_file::<BestFirst, _>(
@@ -170,12 +153,9 @@ pub(crate) fn plan_reply<F: Shelf>(
     files: &mut F,
 ) -> Result<Reply, Stopped>
     requires of { IsOfPlans command }
-    requires may_read { MayRead (F.may_read files.old) (meaning command) }
-    ensures done { IsDone (meaning command.entry) (F.files files.old) (F.files files.new)
-        (F.read_faults files.old) (F.read_faults files.new)
-        (F.write_faults files.old) (F.write_faults files.new) result }
-    ensures readable { F.may_read files.new ≡ F.may_read files.old }
-    ensures writable { F.may_write files.new ≡ F.may_write files.old }
+    requires may { MayBeDone F.Shelf (meaning command) files.old }
+    ensures done { HasDone F.Shelf (meaning command.entry) files.old files.new result }
+    ensures leave { KeepsLeave F.Shelf files.old files.new }
 {
     match command {
         Command::Simulate { usage, plant, plan } => simulate_file(alloc, files, usage, plant, plan),
@@ -196,12 +176,9 @@ pub(crate) fn log_reply<F: Shelf>(
     files: &mut F,
 ) -> Result<Reply, Stopped>
     requires of { IsOfLogs command }
-    requires may_read { MayRead (F.may_read files.old) (meaning command) }
-    ensures done { IsDone (meaning command.entry) (F.files files.old) (F.files files.new)
-        (F.read_faults files.old) (F.read_faults files.new)
-        (F.write_faults files.old) (F.write_faults files.new) result }
-    ensures readable { F.may_read files.new ≡ F.may_read files.old }
-    ensures writable { F.may_write files.new ≡ F.may_write files.old }
+    requires may { MayBeDone F.Shelf (meaning command) files.old }
+    ensures done { HasDone F.Shelf (meaning command.entry) files.old files.new result }
+    ensures leave { KeepsLeave F.Shelf files.old files.new }
 {
     match command {
         Command::Tell { usage, plant, log } => tell_file(alloc, files, usage, plant, log),
@@ -228,14 +205,9 @@ pub(crate) fn part_reply<F: Shelf>(
     files: &mut F,
 ) -> Result<Reply, Stopped>
     requires of { IsOfParts command }
-    requires may_read { MayRead (F.may_read files.old) (meaning command) }
-    requires may_write { MayWrite (F.may_write files.old) (meaning command) }
-    requires apart { WritesApart (meaning command) }
-    ensures done { IsDone (meaning command.entry) (F.files files.old) (F.files files.new)
-        (F.read_faults files.old) (F.read_faults files.new)
-        (F.write_faults files.old) (F.write_faults files.new) result }
-    ensures readable { F.may_read files.new ≡ F.may_read files.old }
-    ensures writable { F.may_write files.new ≡ F.may_write files.old }
+    requires may { MayBeDone F.Shelf (meaning command) files.old }
+    ensures done { HasDone F.Shelf (meaning command.entry) files.old files.new result }
+    ensures leave { KeepsLeave F.Shelf files.old files.new }
 {
     match command {
         Command::Parts { plant, levels } => parts_file(alloc, files, plant, levels),
@@ -256,14 +228,9 @@ pub(crate) fn resume_reply<F: Shelf>(
     files: &mut F,
 ) -> Result<Reply, Stopped>
     requires of { IsResuming command }
-    requires may_read { MayRead (F.may_read files.old) (meaning command) }
-    requires may_write { MayWrite (F.may_write files.old) (meaning command) }
-    requires apart { WritesApart (meaning command) }
-    ensures done { IsDone (meaning command.entry) (F.files files.old) (F.files files.new)
-        (F.read_faults files.old) (F.read_faults files.new)
-        (F.write_faults files.old) (F.write_faults files.new) result }
-    ensures readable { F.may_read files.new ≡ F.may_read files.old }
-    ensures writable { F.may_write files.new ≡ F.may_write files.old }
+    requires may { MayBeDone F.Shelf (meaning command) files.old }
+    ensures done { HasDone F.Shelf (meaning command.entry) files.old files.new result }
+    ensures leave { KeepsLeave F.Shelf files.old files.new }
 {
     match command {
         Command::Resume {

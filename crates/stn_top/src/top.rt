@@ -3,11 +3,12 @@ ghost use Rattle.std.specs.Prelude.{◌≡◌, ◌≢◌, ◌↔◌, ◌⊎◌, 
 ghost use Rattle.std.specs.Option.{option_map};
 ghost use Rattle.stn_edge.specs.Count.{Rose};
 ghost use Rattle.stn_edge.specs.Text.{extended};
+ghost use Rattle.store_frames.specs.Frames.{ReadsAndWrites};
 ghost use Rattle.command_words.specs.Words.{Request, Says, HasNoForm, texts, meaning};
 ghost use Rattle.command_replies.specs.Answers.{IsUnwritten};
-ghost use Rattle.stn_top.specs.Requests.{MayRead, MayWrite, WritesApart, OthersKept, IsAnswer, IsLeft, GetsToWriting, ReadsFirst};
+ghost use Rattle.stn_top.specs.Requests.{OthersKept, IsAnswer, IsLeft, GetsToWriting, ReadsFirst};
 ghost use Rattle.stn_top.specs.Replies.{IsReply, Answered, IsCutOff, MayReadAll, MayWriteAll, LogFailed, PutFailed, SayReadsFirst, IsPutOnce};
-ghost use Rattle.stn_top.specs.Done.{IsDone};
+ghost use Rattle.stn_top.specs.Done.{HasDone, KeepsLeave, MayBeDone};
 
 use crate::rooms::{
     conflict_reply, demonstrate, horizon_reply, log_reply, part_reply, plan_reply, planning_reply,
@@ -81,9 +82,7 @@ pub fn run<F: Shelf, K: Sink>(alloc: Global, words: &[&str], files: &mut F, out:
 
 // Puts the answer to a command, and answers with the exit status.
 fn answer<F: Shelf, K: Sink>(alloc: Global, command: Command, files: &mut F, out: &mut K) -> u8
-    requires may_read { MayRead (F.may_read files.old) (meaning command) }
-    requires may_write { MayWrite (F.may_write files.old) (meaning command) }
-    requires apart { WritesApart (meaning command) }
+    requires { MayBeDone F.Shelf (meaning command) files.old }
     ensures answer { result < 7
         → Answered (IsAnswer (F.files files.old) (F.files files.new) (meaning command.entry))
         result (K.written out.old) (K.written out.new) }
@@ -104,10 +103,7 @@ fn answer<F: Shelf, K: Sink>(alloc: Global, command: Command, files: &mut F, out
     ensures unwritten { IsUnwritten result → F.files files.new ≡ F.files files.old }
     ensures unread { result ≡ 7 → ReadsFirst (meaning command.entry)
         → F.files files.new ≡ F.files files.old }
-    ensures readable { F.may_read files.new ≡ F.may_read files.old }
-    ensures writable { F.may_write files.new ≡ F.may_write files.old }
-    ensures reads { F.read_faults files.old ≤ F.read_faults files.new }
-    ensures writes { F.write_faults files.old ≤ F.write_faults files.new }
+    ensures kept { ReadsAndWrites F.Shelf files.old files.new }
     ensures puts { K.faults out.old ≤ K.faults out.new }
     ensures once { IsPutOnce (K.puts out.old) (K.puts out.new) }
 {
@@ -142,14 +138,9 @@ fn put<K: Sink>(out: &mut K, status: u8, text: &[u8]) -> u8
 
 // What has come of a command's work.
 fn reply_to<F: Shelf>(alloc: Global, command: Command, files: &mut F) -> Result<Reply, Stopped>
-    requires may_read { MayRead (F.may_read files.old) (meaning command) }
-    requires may_write { MayWrite (F.may_write files.old) (meaning command) }
-    requires apart { WritesApart (meaning command) }
-    ensures done { IsDone (meaning command.entry) (F.files files.old) (F.files files.new)
-        (F.read_faults files.old) (F.read_faults files.new)
-        (F.write_faults files.old) (F.write_faults files.new) result }
-    ensures readable { F.may_read files.new ≡ F.may_read files.old }
-    ensures writable { F.may_write files.new ≡ F.may_write files.old }
+    requires { MayBeDone F.Shelf (meaning command) files.old }
+    ensures done { HasDone F.Shelf (meaning command.entry) files.old files.new result }
+    ensures leave { KeepsLeave F.Shelf files.old files.new }
 {
     match command {
         Command::Solve { .. } | Command::Log { .. } | Command::SolvePart { .. } => planning_reply(

@@ -51,7 +51,7 @@ returns-clause-answer g c = λ name read.
     (λ reply. IsPlanAnswer old new name c.args.plan.now [] answers reply.status reply.text.items)
     (λ reply is. plan_answer old new name c.args.plan.now [] answers plant read c.in_ok-plan.plan c.in_ok-plan.ensures.read reply.status reply.text.items is
     (λ refused. unwritten-on kept budget plant c.in_ok-plan.plan told (new ≡ old) reply.status reply.text.items is (of_refusal reply.status refused)))
-    (rw (slice, same) at c.go_on.ensures.answer) c.go_on.ensures.none
+    (rw (slice, same) at c.go_on.ensures.answer) c.go_on.ensures.plans.none
 
 pub returns-clause-refused : goal.returns-clause-refused
 returns-clause-refused g c =
@@ -65,7 +65,7 @@ returns-clause-refused g c =
     let same = c.in_ok-plan.ensures.same in
     replied_if c.go_on.result (λ reply. PlannedOn kept budget plant c.in_ok-plan.plan told (new ≡ old) reply.status reply.text.items) (λ reply. IsUnwritten reply.status → new ≡ old)
     (λ reply is none. unwritten-on kept budget plant c.in_ok-plan.plan told (new ≡ old) reply.status reply.text.items is none)
-    (rw (slice, same) at c.go_on.ensures.answer) c.go_on.ensures.none
+    (rw (slice, same) at c.go_on.ensures.answer) c.go_on.ensures.plans.none
 
 pub returns-clause-begun : goal.returns-clause-begun
 returns-clause-begun g c = λ failed.
@@ -79,4 +79,4 @@ returns-clause-left g c =
     inr (c.in_ok-plan.plan, (c.in_ok-plan.ensures.read, (rw (slice, same) at c.go_on.ensures.left)))
 
 pub returns-clause-others : goal.returns-clause-others
-returns-clause-others g c = (let same = c.in_ok-plan.ensures.same in rw same at c.go_on.ensures.others)
+returns-clause-others g c = (let same = c.in_ok-plan.ensures.same in rw same at c.go_on.ensures.plans.others)

@@ -54,7 +54,7 @@ returns-clause-answer g c =
     (λ reply is. plant_answer old new c.args.name.now [] (λ _ p. Solved budget p told) plant c.in_ok-plant.ensures.read reply.status reply.text.items
     (planned-as plant (counted_since None []) (IsGivenOutcome plant [] budget) (IsOutcome plant budget) (HasPlantProof plant told) (HasPlantProof plant told) reply.status reply.text.items (λ outcome given. given.right) (λ outcome has. has) is)
     (λ refused. absurd (solved-status is.outcome.answer reply.status is.status_is (of_refusal reply.status refused))))
-    c.plan_plant.ensures.answer c.plan_plant.ensures.none
+    c.plan_plant.ensures.answer c.plan_plant.ensures.plans.none
 
 pub returns-clause-refused : goal.returns-clause-refused
 returns-clause-refused g c =
@@ -64,7 +64,7 @@ returns-clause-refused g c =
     let plant = c.in_ok-plant.plant in
     replied_if c.plan_plant.result (λ reply. Planned plant (counted_since None []) (IsGivenOutcome plant [] c.args.budget.boxes) (HasPlantProof plant told) reply.status reply.text.items) (λ reply. IsUnwritten reply.status → new ≡ old)
     (λ reply is none. absurd (solved-status is.outcome.answer reply.status is.status_is none))
-    c.plan_plant.ensures.answer c.plan_plant.ensures.none
+    c.plan_plant.ensures.answer c.plan_plant.ensures.plans.none
 
 pub returns-clause-begun : goal.returns-clause-begun
 returns-clause-begun g c = λ _. (c.in_ok-plant.plant, c.in_ok-plant.ensures.read)
@@ -79,4 +79,4 @@ returns-clause-left g c =
     (λ log left. inr (record { plant = plant; read = c.in_ok-plant.ensures.read; holds = left })) (rw same at c.plan_plant.ensures.left)
 
 pub returns-clause-others : goal.returns-clause-others
-returns-clause-others g c = let same = c.in_ok-plant.ensures.same in rw same at c.plan_plant.ensures.others
+returns-clause-others g c = let same = c.in_ok-plant.ensures.same in rw same at c.plan_plant.ensures.plans.others

@@ -25,13 +25,13 @@ returns-in-ConflictLogs-clause-done g c =
     (kept_conflict c.in-ConflictLogs.plant.now c.in-ConflictLogs.budget.boxes c.in-ConflictLogs.stem.now (g.F.Shelf.files c.args.files.now) (g.F.Shelf.files c.find_log_file.new.files) c.find_log_file.ensures.others) c.find_log_file.ensures.left c.find_log_file.ensures.kept.later c.find_log_file.ensures.kept.writes)
 
 pub find_log_file-requires-clause-text_writable : goal.find_log_file-requires-clause-text_writable
-find_log_file-requires-clause-text_writable g c = let is = c.in-ConflictLogs.is in let all = rw is at c.requires.may_write in all 0 [] (omega arith)
+find_log_file-requires-clause-text_writable g c = let is = c.in-ConflictLogs.is in let all = rw is at c.requires.may.may_write in all 0 [] (omega arith)
 
 pub find_log_file-requires-clause-log_writable : goal.find_log_file-requires-clause-log_writable
-find_log_file-requires-clause-log_writable g c = let is = c.in-ConflictLogs.is in let all = rw is at c.requires.may_write in all 1 [] (omega arith)
+find_log_file-requires-clause-log_writable g c = let is = c.in-ConflictLogs.is in let all = rw is at c.requires.may.may_write in all 1 [] (omega arith)
 
 pub check_conflict_file-requires-clause-text_readable : goal.check_conflict_file-requires-clause-text_readable
-check_conflict_file-requires-clause-text_readable g c = let is = c.in-CheckConflict.is in let all = rw is at c.requires.may_read in all 1 [] (omega arith)
+check_conflict_file-requires-clause-text_readable g c = let is = c.in-CheckConflict.is in let all = rw is at c.requires.may.may_read in all 1 [] (omega arith)
 
 pub check_conflict_file-requires-clause-log_readable : goal.check_conflict_file-requires-clause-log_readable
-check_conflict_file-requires-clause-log_readable g c = let is = c.in-CheckConflict.is in let all = rw is at c.requires.may_read in all 2 [] (omega arith)
+check_conflict_file-requires-clause-log_readable g c = let is = c.in-CheckConflict.is in let all = rw is at c.requires.may.may_read in all 2 [] (omega arith)

@@ -28,10 +28,10 @@ pub trace_file-requires-clause-logs_writable : goal.trace_file-requires-clause-l
 trace_file-requires-clause-logs_writable g c =
     let may = g.F.Shelf.may_write c.args.files.now in
     let is = c.in-LeastLogs.is in
-    all_logs_allowed may c.in-LeastLogs.stem.now 337 (rw is at c.requires.may_write)
+    all_logs_allowed may c.in-LeastLogs.stem.now 337 (rw is at c.requires.may.may_write)
 
 pub audit_file-requires-clause-logs_readable : goal.audit_file-requires-clause-logs_readable
 audit_file-requires-clause-logs_readable g c =
     let may = g.F.Shelf.may_read c.args.files.now in
     let is = c.in-CheckLeast.is in
-    logs_allowed may c.in-CheckLeast.plant.now c.in-CheckLeast.stem.now c.in-CheckLeast.horizon (rw is at c.requires.may_read)
+    logs_allowed may c.in-CheckLeast.plant.now c.in-CheckLeast.stem.now c.in-CheckLeast.horizon (rw is at c.requires.may.may_read)

@@ -23,7 +23,7 @@ pub join_file-requires-clause-logs_readable : goal.join_file-requires-clause-log
 join_file-requires-clause-logs_readable g c =
     let may = g.F.Shelf.may_read c.args.files.now in
     let is = c.in-Join.is in
-    parts_allowed may c.in-Join.plant.now c.in-Join.stem.now c.in-Join.levels.number (rw is at c.requires.may_read)
+    parts_allowed may c.in-Join.plant.now c.in-Join.stem.now c.in-Join.levels.number (rw is at c.requires.may.may_read)
 
 pub join_file-requires-clause-apart : goal.join_file-requires-clause-apart
-join_file-requires-clause-apart g c = c.requires.apart.joining c.in-Join.plant.now c.in-Join.levels.number c.in-Join.stem.now c.in-Join.log.now (ap meaning c.in-Join.is)
+join_file-requires-clause-apart g c = c.requires.may.apart.joining c.in-Join.plant.now c.in-Join.levels.number c.in-Join.stem.now c.in-Join.log.now (ap meaning c.in-Join.is)

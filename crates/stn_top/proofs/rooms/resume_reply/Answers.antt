@@ -16,7 +16,7 @@ returns-in-Resume-clause-done g c =
     (kept_resumed c.in-Resume.plant.now c.in-Resume.log.now c.in-Resume.budget.boxes c.in-Resume.out.now share (g.F.Shelf.files c.args.files.now) (g.F.Shelf.files c.resume_file.new.files) c.resume_file.ensures.others) c.resume_file.ensures.left c.resume_file.ensures.kept.later c.resume_file.ensures.kept.writes)
 
 pub resume_file-requires-clause-apart : goal.resume_file-requires-clause-apart
-resume_file-requires-clause-apart g c = c.requires.apart.resuming c.in-Resume.plant.now c.in-Resume.log.now c.in-Resume.budget.boxes c.in-Resume.out.now (option_map share_numbers c.in-Resume.share) (ap meaning c.in-Resume.is)
+resume_file-requires-clause-apart g c = c.requires.may.apart.resuming c.in-Resume.plant.now c.in-Resume.log.now c.in-Resume.budget.boxes c.in-Resume.out.now (option_map share_numbers c.in-Resume.share) (ap meaning c.in-Resume.is)
 
 pub returns-in-Merge-clause-done : goal.returns-in-Merge-clause-done
 returns-in-Merge-clause-done g c =
@@ -26,16 +26,16 @@ returns-in-Merge-clause-done g c =
     (kept_merged c.in-Merge.plant.now c.in-Merge.stem.now c.in-Merge.count.number c.in-Merge.out.now (g.F.Shelf.files c.args.files.now) (g.F.Shelf.files c.merge_files.new.files) c.merge_files.ensures.others) c.merge_files.ensures.left c.merge_files.ensures.kept.later c.merge_files.ensures.kept.writes)
 
 pub merge_files-requires-clause-apart : goal.merge_files-requires-clause-apart
-merge_files-requires-clause-apart g c = c.requires.apart.merging c.in-Merge.plant.now c.in-Merge.stem.now c.in-Merge.count.number c.in-Merge.out.now (ap meaning c.in-Merge.is)
+merge_files-requires-clause-apart g c = c.requires.may.apart.merging c.in-Merge.plant.now c.in-Merge.stem.now c.in-Merge.count.number c.in-Merge.out.now (ap meaning c.in-Merge.is)
 
 pub merge_files-requires-clause-logs_readable : goal.merge_files-requires-clause-logs_readable
 merge_files-requires-clause-logs_readable g c =
     let may = g.F.Shelf.may_read c.args.files.now in
     let is = c.in-Merge.is in
-    merged_allowed may c.in-Merge.plant.now c.in-Merge.stem.now c.in-Merge.count.number c.in-Merge.out.now (rw is at c.requires.may_read)
+    merged_allowed may c.in-Merge.plant.now c.in-Merge.stem.now c.in-Merge.count.number c.in-Merge.out.now (rw is at c.requires.may.may_read)
 
 pub merge_files-requires-clause-out_readable : goal.merge_files-requires-clause-out_readable
 merge_files-requires-clause-out_readable g c =
     let may = g.F.Shelf.may_read c.args.files.now in
     let is = c.in-Merge.is in
-    out_allowed may c.in-Merge.plant.now c.in-Merge.stem.now c.in-Merge.count.number c.in-Merge.out.now (rw is at c.requires.may_read)
+    out_allowed may c.in-Merge.plant.now c.in-Merge.stem.now c.in-Merge.count.number c.in-Merge.out.now (rw is at c.requires.may.may_read)

@@ -1,4 +1,4 @@
-use Rattle.std.proofs.Common.{inl, arith}
+use Rattle.std.proofs.Common.{inl, arith, rules}
 use Rattle.command_words.specs.Words.{texts, meaning}
 use Rattle.stn_top.proofs.AnswerLemmas.{cut_off, none_cut_off, none_failed, said_stopped, says_apart, says_reads_first}
 use Rattle.stn_top.proofs.FileLemmas.{kept_all, left_all}
@@ -24,8 +24,12 @@ returns-in-Some-clause-left g c =
     left_all (texts c.args.words.now) (meaning c.in-Some.command) (g.F.Shelf.files c.args.files.now) (g.F.Shelf.files c.answer.new.files)
     c.in-Some.ensures c.answer.ensures.files c.answer.ensures.left
 
-pub answer-requires-clause-apart : goal.answer-requires-clause-apart
-answer-requires-clause-apart g c = says_apart (texts c.args.words.now) (meaning c.in-Some.command) c.in-Some.ensures
+pub answer-requires : goal.answer-requires
+answer-requires g c = record {
+  may_read = search rules;
+  may_write = search rules;
+  apart = says_apart (texts c.args.words.now) (meaning c.in-Some.command) c.in-Some.ensures;
+}
 
 pub returns-in-Some-clause-unread : goal.returns-in-Some-clause-unread
 returns-in-Some-clause-unread g c = λ seven none. c.answer.ensures.unread seven (says_reads_first (texts c.args.words.now) (meaning c.in-Some.command) c.in-Some.ensures none)
