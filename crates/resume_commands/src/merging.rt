@@ -6,7 +6,7 @@ ghost use Rattle.stn_model.specs.declared.plant.Plant.{Plant};
 ghost use Rattle.plant_text.specs.Reading.{reading};
 ghost use Rattle.proof_log.specs.LogNames.{log_name};
 ghost use Rattle.command_words.specs.Words.{IsNoPartLog};
-ghost use Rattle.command_replies.specs.Answers.{IsPlantAnswer, IsUnwritten};
+ghost use Rattle.command_replies.specs.Answers.{AnswersPlant, LeavesUnwritten};
 ghost use Rattle.command_replies.specs.Frames.{HadReadFault, HadWriteFault};
 ghost use Rattle.store_frames.specs.Frames.{ReadsAndWrites};
 ghost use Rattle.command_replies.specs.Sources.{IfReplied, IfRefused, IsReadOf};
@@ -44,13 +44,10 @@ pub fn merge_files<F: Shelf>(
     requires out_readable { IsTrue (F.may_read files.old out.now) }
     requires out_writable { IsTrue (F.may_write files.old out.now) }
     requires apart { IsNoPartLog out.now stem.now 8 }
-    ensures answer { IfReplied result (λ reply. IsPlantAnswer (F.files files.old)
-        (F.files files.new)
+    ensures answer { IfReplied result (AnswersPlant (F.files files.old) (F.files files.new)
         name.now (merged_names stem.now count.number ++ out.now ∷ []) (λ _. MergeAnswered
-        (F.files files.old) (F.files files.new) count.number stem.now out.now)
-        reply.status reply.text.items) }
-    ensures refused { IfReplied result (λ reply. IsUnwritten reply.status
-        → F.files files.new ≡ F.files files.old) }
+        (F.files files.old) (F.files files.new) count.number stem.now out.now)) }
+    ensures refused { IfReplied result (LeavesUnwritten (F.files files.old) (F.files files.new)) }
     ensures fault { HadReadFault F.Shelf files.old files.new result }
     ensures write_fault { HadWriteFault F.Shelf files.old files.new result }
     ensures begun { result ≡ Err Stopped.WriteFault
@@ -82,8 +79,7 @@ fn merge_logs<F: Shelf>(
     requires apart { IsNoPartLog out.now stem.now 8 }
     ensures answer { IfOk result (λ reply. MergeAnswered (F.files files.old) (F.files files.new)
         count.number stem.now out.now plant.now reply.status reply.text.items) }
-    ensures refused { IfOk result (λ reply. IsUnwritten reply.status
-        → F.files files.new ≡ F.files files.old) }
+    ensures refused { IfOk result (LeavesUnwritten (F.files files.old) (F.files files.new)) }
     ensures none { IfRefused result (λ _. ⊥) }
     ensures fault { HadReadFault F.Shelf files.old files.new result }
     ensures write_fault { HadWriteFault F.Shelf files.old files.new result }

@@ -4,12 +4,11 @@ ghost use Rattle.std.specs.Option.{option_map};
 ghost use Rattle.stn_edge.specs.Files.{OthersStay};
 ghost use Rattle.stn_model.specs.Sound.{Sound};
 ghost use Rattle.stn_model.specs.declared.plant.Plant.{Plant};
-ghost use Rattle.plant_text.specs.Reading.{reading};
 ghost use Rattle.command_words.specs.Words.{share_numbers};
 ghost use Rattle.command_replies.specs.Frames.{HadReadFault, HadWriteFault};
 ghost use Rattle.store_frames.specs.Frames.{ReadsAndWrites};
-ghost use Rattle.command_replies.specs.Answers.{IsPlantAnswer, IsUnwritten};
-ghost use Rattle.command_replies.specs.Sources.{IfReplied, IfRefused, IsReadOf};
+ghost use Rattle.command_replies.specs.Answers.{AnswersPlant, HasReadPlant, LeavesUnwritten};
+ghost use Rattle.command_replies.specs.Sources.{IfReplied, IfRefused};
 ghost use Rattle.log_resuming.specs.Resumed.{LeavesResumed};
 ghost use Rattle.resume_commands.specs.Resuming.{HoldsResumed, IsShare, ResumeAnswered};
 
@@ -53,16 +52,13 @@ pub fn resume_file<A: EndAdvisers, F: Shelf>(
     requires out_readable { IsTrue (F.may_read files.old out.now) }
     requires out_writable { IsTrue (F.may_write files.old out.now) }
     requires apart { out.now ≢ log.now }
-    ensures answer { IfReplied result (λ reply. IsPlantAnswer (F.files files.old) (F.files files.new)
+    ensures answer { IfReplied result (AnswersPlant (F.files files.old) (F.files files.new)
         name.now (log.now ∷ out.now ∷ []) (λ _. ResumeAnswered (F.files files.old)
-        (F.files files.new) budget.boxes (option_map share_numbers share) log.now out.now)
-        reply.status reply.text.items) }
-    ensures refused { IfReplied result (λ reply. IsUnwritten reply.status
-        → F.files files.new ≡ F.files files.old) }
+        (F.files files.new) budget.boxes (option_map share_numbers share) log.now out.now)) }
+    ensures refused { IfReplied result (LeavesUnwritten (F.files files.old) (F.files files.new)) }
     ensures fault { HadReadFault F.Shelf files.old files.new result }
     ensures write_fault { HadWriteFault F.Shelf files.old files.new result }
-    ensures begun { result ≡ Err Stopped.WriteFault
-        → (plant : Plant) × IsReadOf reading (F.files files.old) name.now (Ok plant) }
+    ensures begun { result ≡ Err Stopped.WriteFault → HasReadPlant (F.files files.old) name.now }
     ensures left { (F.files files.new ≡ F.files files.old) ⊎ HoldsResumed (F.files files.old)
         (F.files files.new) name.now log.now }
     ensures others { OthersStay out.now (F.files files.old) (F.files files.new) }
@@ -90,8 +86,7 @@ fn resume_plant<A: EndAdvisers, F: Shelf>(
     ensures answer { IfOk result (λ reply. ResumeAnswered (F.files files.old) (F.files files.new)
         budget.boxes (option_map share_numbers share) log.now out.now plant.now reply.status
         reply.text.items) }
-    ensures refused { IfOk result (λ reply. IsUnwritten reply.status
-        → F.files files.new ≡ F.files files.old) }
+    ensures refused { IfOk result (LeavesUnwritten (F.files files.old) (F.files files.new)) }
     ensures none { IfRefused result (λ _. ⊥) }
     ensures fault { HadReadFault F.Shelf files.old files.new result }
     ensures write_fault { HadWriteFault F.Shelf files.old files.new result }
