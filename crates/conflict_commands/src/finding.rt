@@ -3,7 +3,7 @@ ghost use Rattle.std.specs.Prelude.{◌≡◌, ◌≢◌, ◌≤◌, [], Err, Is
 ghost use Rattle.stn_model.specs.Sound.{Sound};
 ghost use Rattle.command_replies.specs.Frames.{HadReadFault};
 ghost use Rattle.store_frames.specs.Frames.{OnlyReads};
-ghost use Rattle.command_replies.specs.Answers.{IsPlantAnswer};
+ghost use Rattle.command_replies.specs.Answers.{AnswersPlant};
 ghost use Rattle.command_replies.specs.Sources.{IfReplied};
 ghost use Rattle.conflict_commands.specs.Finding.{Found};
 
@@ -25,9 +25,8 @@ pub fn find_file<A: Advisers, F: Shelf>(
     budget: Budget,
 ) -> Result<Reply, Stopped>
     requires { IsTrue (F.may_read files.old name.now) }
-    ensures answer { IfReplied result (λ reply. IsPlantAnswer (F.files files.old)
-        (F.files files.new)
-        name.now [] (λ _. Found budget.boxes) reply.status reply.text.items) }
+    ensures answer { IfReplied result (AnswersPlant (F.files files.old) (F.files files.new)
+        name.now [] (λ _. Found budget.boxes)) }
     ensures fault { HadReadFault F.Shelf files.old files.new result }
     ensures unwritten { result ≢ Err Stopped.WriteFault }
     ensures kept { OnlyReads F.Shelf files.old files.new }
