@@ -9,4 +9,4 @@ mod words;
 pub use caps::put_cap;
 pub use parts::{is_part, program_of};
 pub use trial::{Trial, answer_over};
-pub use words::{bytes_of, domain_of};
+pub use words::{bytes_of, domain_of, limits_of};

@@ -1,5 +1,6 @@
 //! Values that the words of a step are.
 use case_tables::Sheet;
+use log_lines::Limits;
 use row_kit::{Change, Domain, Entry, List, Row, Tag};
 use std::alloc::{AllocError, Global};
 
@@ -15,6 +16,19 @@ pub fn domain_of(sheet: &mut Sheet) -> Domain {
         zero: zero == "0",
         lo,
         hi,
+    }
+}
+
+/// The limits of the next three words, `ROWS SLOTS DEPTH`: a point has a value for each slot.
+pub fn limits_of(sheet: &mut Sheet) -> Limits {
+    let rows = sheet.number();
+    let slots = sheet.number();
+    let depth = sheet.number();
+    Limits {
+        rows,
+        slots,
+        points: slots,
+        depth,
     }
 }
 

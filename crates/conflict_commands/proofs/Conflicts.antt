@@ -1,6 +1,6 @@
 -- Conflicts, their texts, and their files.
 use Rattle.std.proofs.Common.{◌≡◌, ◌≢◌, ℕ, Bool, true, false, cond, List, ◌++◌, codes, Option, Some, None, inl, inr, ap, sym, subst, ◌∙◌, arith, append_assoc}
-use Rattle.std.specs.Prelude.{ℤ, Result, Ok, Err, IfOk, IfSome}
+use Rattle.std.specs.Prelude.{ℤ, IfSome}
 use Rattle.std.specs.Fmt.{signed_decimal}
 use Rattle.stn_edge.specs.Files.{FileMap, file_of, OthersStay}
 use Rattle.stn_model.specs.declared.plant.Plant.{Plant}
@@ -19,7 +19,7 @@ use Rattle.order_conflict.specs.declared.answer.ConflictAnswer.{ConflictAnswer}
 use Rattle.order_conflict.specs.declared.answer.ConflictAnswer.TheVariants.{Planned, Unsettled, Among, Unproved}
 use Rattle.order_conflict.specs.Conflict.{IsConflict}
 use Rattle.order_conflict.specs.Logged.{FileStays, HoldsLogOf, IsLogOf, LeavesStepLog}
-use Rattle.conflict_commands.specs.Finding.{answer_status, answer_text, has_open, IsPrintable, Found}
+use Rattle.conflict_commands.specs.Finding.{answer_status, answer_text, has_open, IsPrintable}
 use Rattle.conflict_commands.specs.Logging.{FoundWithLog, IsPut, IsTextBegun, LeavesConflict, OthersStayPair}
 use Rattle.conflict_commands.proofs.PutText.{stays_same}
 
@@ -36,12 +36,6 @@ printable_log plant budget name old new (Planned earned plan) sound right = name
 printable_log plant budget name old new Unsettled sound right = tt
 printable_log plant budget name old new (Among marks) sound right = right.0.1.each
 printable_log plant budget name old new (Unproved marks) sound right = tt
-
--- a right answer and its text are an answer of `conflict`
-pub found : {E : Type 0} (plant : Plant) (budget : ℕ) (said : ConflictAnswer) (r : Result Reply E) → IsConflict plant budget said
-    → IfOk r (λ reply. (reply.status ≡ answer_status said) × (reply.text.items ≡ answer_text plant said)) → IfOk r (λ reply. Found budget plant reply.status reply.text.items)
-found plant budget said (Ok reply) right is = record { said = said; right = right; status_is = is.0; text_is = is.1 }
-found plant budget said (Err e) right is = tt
 
 -- a head followed by the lines of a plan is the text of an answer
 pub plan_answer : (plant : Plant) (earned : ℤ) (plan : List Start) (head : List ℕ) → head ≡ codes "# feasible " ++ (signed_decimal earned ++ codes "\n") → head ++ plan_lines plant plan ≡ answer_text plant (Planned earned plan)

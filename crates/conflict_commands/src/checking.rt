@@ -5,7 +5,7 @@ ghost use Rattle.stn_model.specs.Sound.{Sound};
 ghost use Rattle.proof_log.specs.LogNames.{log_name};
 ghost use Rattle.command_replies.specs.Frames.{HadReadFault};
 ghost use Rattle.store_frames.specs.Frames.{OnlyReads};
-ghost use Rattle.command_replies.specs.Answers.{IsPlantAnswer};
+ghost use Rattle.command_replies.specs.Answers.{AnswersPlant};
 ghost use Rattle.command_replies.specs.Sources.{IfReplied, IfRefused};
 ghost use Rattle.order_text.specs.Marks.{kept_count};
 ghost use Rattle.conflict_commands.specs.Checking.{
@@ -51,10 +51,9 @@ pub fn check_conflict_file<F: Shelf>(
     requires plant_readable { IsTrue (F.may_read files.old plant.now) }
     requires text_readable { IsTrue (F.may_read files.old (log_name stem.now 0)) }
     requires log_readable { IsTrue (F.may_read files.old (log_name stem.now 1)) }
-    ensures answer { IfReplied result (λ reply. IsPlantAnswer (F.files files.old)
-        (F.files files.new)
+    ensures answer { IfReplied result (AnswersPlant (F.files files.old) (F.files files.new)
         plant.now (log_name stem.now 0 ∷ log_name stem.now 1 ∷ [])
-        (λ _. ConflictChecked (F.files files.old) stem.now) reply.status reply.text.items) }
+        (λ _. ConflictChecked (F.files files.old) stem.now)) }
     ensures fault { HadReadFault F.Shelf files.old files.new result }
     ensures unwritten { result ≢ Err Stopped.WriteFault }
     ensures kept { OnlyReads F.Shelf files.old files.new }

@@ -4,12 +4,11 @@ ghost use Rattle.stn_edge.specs.Count.{Rose};
 ghost use Rattle.stn_edge.specs.Files.{OthersStay, file_of};
 ghost use Rattle.stn_model.specs.Sound.{Sound};
 ghost use Rattle.stn_model.specs.declared.plant.Plant.{Plant};
-ghost use Rattle.plant_text.specs.Reading.{reading};
 ghost use Rattle.proof_log.specs.LogNames.{log_name};
 ghost use Rattle.command_replies.specs.Frames.{HadReadFault, HadWriteFault};
 ghost use Rattle.store_frames.specs.Frames.{ReadsAndWrites};
-ghost use Rattle.command_replies.specs.Answers.{IsPlantAnswer, IsUnwritten};
-ghost use Rattle.command_replies.specs.Sources.{IfReplied, IfRefused, IsReadOf};
+ghost use Rattle.command_replies.specs.Answers.{AnswersPlant, HasReadPlant, LeavesUnwritten};
+ghost use Rattle.command_replies.specs.Sources.{IfReplied, IfRefused};
 ghost use Rattle.conflict_commands.specs.Finding.{answer_text, IsPrintable};
 ghost use Rattle.conflict_commands.specs.Logging.{
   FoundWithLog,
@@ -42,18 +41,14 @@ pub fn find_log_file<A: Advisers, F: Shelf>(
     requires plant_readable { IsTrue (F.may_read files.old name.now) }
     requires text_writable { IsTrue (F.may_write files.old (log_name stem.now 0)) }
     requires log_writable { IsTrue (F.may_write files.old (log_name stem.now 1)) }
-    ensures answer { IfReplied result (λ reply. IsPlantAnswer (F.files files.old)
-        (F.files files.new)
+    ensures answer { IfReplied result (AnswersPlant (F.files files.old) (F.files files.new)
         name.now [] (λ _. FoundWithLog budget.boxes stem.now (F.files files.old)
-        (F.files files.new))
-        reply.status reply.text.items) }
-    ensures refused { IfReplied result (λ reply. IsUnwritten reply.status
-        → F.files files.new ≡ F.files files.old) }
+        (F.files files.new))) }
+    ensures refused { IfReplied result (LeavesUnwritten (F.files files.old) (F.files files.new)) }
     ensures fault { HadReadFault F.Shelf files.old files.new result }
     ensures unread { result ≡ Err Stopped.ReadFault → F.files files.new ≡ F.files files.old }
     ensures write_fault { HadWriteFault F.Shelf files.old files.new result }
-    ensures begun { result ≡ Err Stopped.WriteFault
-        → (plant : Plant) × IsReadOf reading (F.files files.old) name.now (Ok plant) }
+    ensures begun { result ≡ Err Stopped.WriteFault → HasReadPlant (F.files files.old) name.now }
     ensures left { (F.files files.new ≡ F.files files.old) ⊎ HoldsConflict budget.boxes
         (F.files files.old) (F.files files.new) name.now stem.now }
     ensures others { OthersStayPair stem.now (F.files files.old) (F.files files.new) }

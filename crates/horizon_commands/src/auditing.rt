@@ -4,7 +4,7 @@ ghost use Rattle.stn_model.specs.Sound.{Sound};
 ghost use Rattle.least_horizon.specs.LogNames.{AreAllowed};
 ghost use Rattle.command_replies.specs.Frames.{HadReadFault};
 ghost use Rattle.store_frames.specs.Frames.{OnlyReads};
-ghost use Rattle.command_replies.specs.Answers.{IsPlantAnswer};
+ghost use Rattle.command_replies.specs.Answers.{AnswersPlant};
 ghost use Rattle.command_replies.specs.Sources.{IfReplied, IfRefused};
 ghost use Rattle.horizon_commands.specs.Auditing.{audit_status, audit_text, Audited};
 ghost use Rattle.horizon_commands.specs.Seeking.{log_names};
@@ -27,10 +27,9 @@ pub fn audit_file<F: Shelf>(
 ) -> Result<Reply, Stopped>
     requires plant_readable { IsTrue (F.may_read files.old plant.now) }
     requires logs_readable { AreAllowed (F.may_read files.old) stem.now horizon }
-    ensures answer { IfReplied result (λ reply. IsPlantAnswer (F.files files.old)
-        (F.files files.new)
-        plant.now (log_names stem.now horizon) (λ _. Audited (F.files files.old) horizon stem.now)
-        reply.status reply.text.items) }
+    ensures answer { IfReplied result (AnswersPlant (F.files files.old) (F.files files.new)
+        plant.now (log_names stem.now horizon)
+        (λ _. Audited (F.files files.old) horizon stem.now)) }
     ensures fault { HadReadFault F.Shelf files.old files.new result }
     ensures unwritten { result ≢ Err Stopped.WriteFault }
     ensures kept { OnlyReads F.Shelf files.old files.new }

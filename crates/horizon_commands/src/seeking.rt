@@ -3,15 +3,14 @@ ghost use Rattle.std.specs.Prelude.{◌≡◌, ◌≢◌, ◌≤◌, ◌⊎◌, 
 ghost use Rattle.std.specs.Fmt.{signed_decimal};
 ghost use Rattle.stn_model.specs.Sound.{Sound};
 ghost use Rattle.stn_model.specs.declared.plant.Plant.{Plant};
-ghost use Rattle.plant_text.specs.Reading.{reading};
 ghost use Rattle.plan_text.specs.PlanLines.{IsNamed};
 ghost use Rattle.least_horizon.specs.declared.answer.LeastAnswer.TheVariants.{At};
 ghost use Rattle.least_horizon.specs.LogNames.{logs_in, AreAllowed, OthersStayBelow};
 ghost use Rattle.least_horizon.specs.Least.{IsStopped};
 ghost use Rattle.command_replies.specs.Frames.{HadReadFault, HadWriteFault};
 ghost use Rattle.store_frames.specs.Frames.{OnlyReads, ReadsAndWrites};
-ghost use Rattle.command_replies.specs.Answers.{IsPlantAnswer, IsUnwritten};
-ghost use Rattle.command_replies.specs.Sources.{IfReplied, IfRefused, IsReadOf};
+ghost use Rattle.command_replies.specs.Answers.{AnswersPlant, HasReadPlant, LeavesUnwritten};
+ghost use Rattle.command_replies.specs.Sources.{IfReplied, IfRefused};
 ghost use Rattle.horizon_commands.specs.Seeking.{
   least_text,
   least_status,
@@ -39,10 +38,8 @@ pub fn seek_file<A: Advisers, F: Shelf>(
     budget: Budget,
 ) -> Result<Reply, Stopped>
     requires { IsTrue (F.may_read files.old name.now) }
-    ensures answer { IfReplied result (λ reply. IsPlantAnswer (F.files files.old)
-        (F.files files.new)
-        name.now [] (λ _ plant. Sought budget.boxes plant (λ _. None) (λ _. Unit {0}))
-        reply.status reply.text.items) }
+    ensures answer { IfReplied result (AnswersPlant (F.files files.old) (F.files files.new)
+        name.now [] (λ _ plant. Sought budget.boxes plant (λ _. None) (λ _. Unit {0}))) }
     ensures fault { HadReadFault F.Shelf files.old files.new result }
     ensures unwritten { result ≢ Err Stopped.WriteFault }
     ensures kept { OnlyReads F.Shelf files.old files.new }
@@ -62,18 +59,14 @@ pub fn trace_file<A: Advisers, F: Shelf>(
 ) -> Result<Reply, Stopped>
     requires plant_readable { IsTrue (F.may_read files.old name.now) }
     requires logs_writable { AreAllowed (F.may_write files.old) stem.now 337 }
-    ensures answer { IfReplied result (λ reply. IsPlantAnswer (F.files files.old)
-        (F.files files.new)
+    ensures answer { IfReplied result (AnswersPlant (F.files files.old) (F.files files.new)
         name.now [] (λ _ plant. Sought budget.boxes plant (logs_in stem.now (F.files files.new))
-        (λ horizon. OthersStayBelow stem.now horizon (F.files files.old) (F.files files.new)))
-        reply.status reply.text.items) }
-    ensures refused { IfReplied result (λ reply. IsUnwritten reply.status
-        → F.files files.new ≡ F.files files.old) }
+        (λ horizon. OthersStayBelow stem.now horizon (F.files files.old) (F.files files.new)))) }
+    ensures refused { IfReplied result (LeavesUnwritten (F.files files.old) (F.files files.new)) }
     ensures fault { HadReadFault F.Shelf files.old files.new result }
     ensures unread { result ≡ Err Stopped.ReadFault → F.files files.new ≡ F.files files.old }
     ensures write_fault { HadWriteFault F.Shelf files.old files.new result }
-    ensures begun { result ≡ Err Stopped.WriteFault
-        → (plant : Plant) × IsReadOf reading (F.files files.old) name.now (Ok plant) }
+    ensures begun { result ≡ Err Stopped.WriteFault → HasReadPlant (F.files files.old) name.now }
     ensures left { (F.files files.new ≡ F.files files.old) ⊎ HoldsLogs budget.boxes
         (F.files files.old) (F.files files.new) name.now stem.now }
     ensures others { OthersStayBelow stem.now 337 (F.files files.old) (F.files files.new) }

@@ -1,6 +1,10 @@
 -- The least horizon within which a plan is feasible, and how it is found.
-use Rattle.std.specs.Prelude.{◌≡◌, ◌<◌, ◌≤◌, ◌+◌, ℕ, ⊤, List, Option, Some, None}
+use Rattle.std.specs.Prelude.{◌≡◌, ◌<◌, ◌≤◌, ◌+◌, ℕ, ⊤, List, Option, Some, None, Result, Err}
+use Rattle.stn_edge.specs.Count.{Rose}
 use Rattle.stn_edge.specs.Files.{FileMap, OthersStay}
+use Rattle.stn_edge.specs.declared.shelf.Shelf.{Ghosts}
+use Rattle.stn_edge.specs.declared.stop.Stop.{Stop}
+use Rattle.stn_edge.specs.declared.stop.Stop.TheVariants.{Failed}
 use Rattle.stn_model.specs.declared.plant.Plant.{Plant}
 use Rattle.stn_model.specs.declared.answer.Answer.{Answer}
 use Rattle.stn_model.specs.declared.answer.Answer.TheVariants as answer
@@ -87,3 +91,7 @@ pub record IsStopped (plant : Plant) (budget : ℕ) (stem : List ℕ) (old new :
   pub kept : OthersStayBelow stem horizon old begun
   pub left : IsLeftOf (plant_at plant horizon) (log_name stem horizon) begun new
   pub others : OthersStay (log_name stem horizon) begun new
+
+-- a call fails only where the count of failed writes rose
+abbrev pub FailsWriting : {F X : Type 0} → Ghosts F → Result X Stop → F → F → Type 0
+FailsWriting S result old new = result ≡ Err Failed → Rose (S.write_faults old) (S.write_faults new)

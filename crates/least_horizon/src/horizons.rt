@@ -1,13 +1,12 @@
 //! Solving one horizon after another.
-ghost use Rattle.std.specs.Prelude.{◌≡◌, ◌≤◌, ◌+◌, None, Err, IsTrue, IfOk, OnErr};
-ghost use Rattle.stn_edge.specs.Count.{Rose};
+ghost use Rattle.std.specs.Prelude.{◌≡◌, ◌≤◌, ◌+◌, None, IsTrue, IfOk, OnErr};
 ghost use Rattle.stn_edge.specs.Files.{OthersStay};
 ghost use Rattle.stn_model.specs.Sound.{Sound, Within};
 ghost use Rattle.plan_told.specs.Proofs.{IsLeftOf};
 ghost use Rattle.shorter_plant.specs.PlantAt.{plant_at};
 ghost use Rattle.proof_log.specs.LogNames.{log_name};
 ghost use Rattle.least_horizon.specs.LogNames.{logs_in, AreAllowed, OthersStayBelow};
-ghost use Rattle.least_horizon.specs.Least.{settled_within, untried, IsLeast, IsHorizonSettled, IsStopped};
+ghost use Rattle.least_horizon.specs.Least.{settled_within, untried, FailsWriting, IsLeast, IsHorizonSettled, IsStopped};
 
 use crate::answer::LeastAnswer;
 use box_advice::Advisers;
@@ -59,8 +58,7 @@ pub fn least_to<A: Advisers, F: Shelf>(
     ensures writable { F.may_write files.new ≡ F.may_write files.old }
     ensures no_read { F.read_faults files.new ≡ F.read_faults files.old }
     ensures later { F.write_faults files.old ≤ F.write_faults files.new }
-    ensures failed { result ≡ Err Stop.Failed
-        → Rose (F.write_faults files.old) (F.write_faults files.new) }
+    ensures failed { FailsWriting F.Shelf result files.old files.new }
 {
     for horizon in 1..plant.periods + 1 {
         if let Some(answer) = log_at::<A, _>(alloc, plant, budget, horizon, files, stem)? {
@@ -110,8 +108,7 @@ fn log_at<A: Advisers, F: Shelf>(
     ensures writable { F.may_write files.new ≡ F.may_write files.old }
     ensures no_read { F.read_faults files.new ≡ F.read_faults files.old }
     ensures later { F.write_faults files.old ≤ F.write_faults files.new }
-    ensures failed { result ≡ Err Stop.Failed
-        → Rose (F.write_faults files.old) (F.write_faults files.new) }
+    ensures failed { FailsWriting F.Shelf result files.old files.new }
 {
     let short = plant_at(alloc, plant, horizon)?;
     let name = log_name(alloc, stem, horizon)?;

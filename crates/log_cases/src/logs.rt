@@ -1,6 +1,7 @@
 //! Cases of logs that are read.
-use crate::defects::{limits_of, put_defect};
+use crate::defects::put_defect;
 use crate::heads::{head, nodes};
+use case_programs::limits_of;
 use case_tables::{Sheet, Step, Tried};
 use log_lines::{Defect, Limits};
 use proof_log::{Log, LogStop, first_defect, put_claim, put_log, put_proof, read_log};

@@ -8,7 +8,7 @@ ghost use Rattle.stn_model.specs.Sound.{Sound};
 ghost use Rattle.valid_log.specs.Claims.{YesSays};
 ghost use Rattle.command_replies.specs.Frames.{HadReadFault};
 ghost use Rattle.store_frames.specs.Frames.{OnlyReads};
-ghost use Rattle.command_replies.specs.Answers.{IsPlantAnswer};
+ghost use Rattle.command_replies.specs.Answers.{AnswersPlant};
 ghost use Rattle.command_replies.specs.Sources.{IfReplied, IfRefused};
 ghost use Rattle.log_commands.specs.Telling.{LogTold, Tells};
 
@@ -38,11 +38,9 @@ pub fn tell_file<F: Shelf>(
 ) -> Result<Reply, Stopped>
     requires plant_readable { IsTrue (F.may_read files.old plant.now) }
     requires log_readable { IsTrue (F.may_read files.old log.now) }
-    ensures answer { IfReplied result (λ reply. IsPlantAnswer (F.files files.old)
-        (F.files files.new)
+    ensures answer { IfReplied result (AnswersPlant (F.files files.old) (F.files files.new)
         plant.now (log.now ∷ [])
-        (λ _. LogTold usage (option_map (λ m. file_of m log.now) (F.files files.old)))
-        reply.status reply.text.items) }
+        (λ _. LogTold usage (option_map (λ m. file_of m log.now) (F.files files.old)))) }
     ensures fault { HadReadFault F.Shelf files.old files.new result }
     ensures unwritten { result ≢ Err Stopped.WriteFault }
     ensures kept { OnlyReads F.Shelf files.old files.new }

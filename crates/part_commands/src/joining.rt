@@ -10,7 +10,7 @@ ghost use Rattle.log_parts.specs.PartLogs.{AllAreValid};
 ghost use Rattle.command_words.specs.Words.{IsNoPartLog};
 ghost use Rattle.command_replies.specs.Frames.{HadReadFault, HadWriteFault};
 ghost use Rattle.store_frames.specs.Frames.{ReadsAndWrites};
-ghost use Rattle.command_replies.specs.Answers.{IsPlantAnswer, IsUnwritten};
+ghost use Rattle.command_replies.specs.Answers.{AnswersPlant, LeavesUnwritten};
 ghost use Rattle.command_replies.specs.Sources.{IfReplied, IfRefused, IsReadOf};
 ghost use Rattle.answer_texts.specs.Levels.{OnLevels};
 ghost use Rattle.part_commands.specs.JoiningParts.{
@@ -47,13 +47,10 @@ pub fn join_file<F: Shelf>(
         → IsTrue (F.may_read files.old (log_name stem.now part)) }
     requires log_writable { IsTrue (F.may_write files.old log.now) }
     requires apart { IsNoPartLog log.now stem.now levels.number }
-    ensures answer { IfReplied result (λ reply. IsPlantAnswer (F.files files.old)
-        (F.files files.new)
+    ensures answer { IfReplied result (AnswersPlant (F.files files.old) (F.files files.new)
         name.now (part_names stem.now levels.number) (λ _ plant. OnLevels plant levels.number
-        (JoinAnswered (F.files files.old) (F.files files.new) levels.number stem.now log.now plant))
-        reply.status reply.text.items) }
-    ensures refused { IfReplied result (λ reply. IsUnwritten reply.status
-        → F.files files.new ≡ F.files files.old) }
+        (JoinAnswered (F.files files.old) (F.files files.new) levels.number stem.now log.now plant))) }
+    ensures refused { IfReplied result (LeavesUnwritten (F.files files.old) (F.files files.new)) }
     ensures fault { HadReadFault F.Shelf files.old files.new result }
     ensures write_fault { HadWriteFault F.Shelf files.old files.new result }
     ensures begun { result ≡ Err Stopped.WriteFault
@@ -87,8 +84,7 @@ fn join_parts<F: Shelf>(
         (JoinAnswered (F.files files.old) (F.files files.new) levels.number stem.now log.now
         plant.now)
         reply.status reply.text.items) }
-    ensures refused { IfOk result (λ reply. IsUnwritten reply.status
-        → F.files files.new ≡ F.files files.old) }
+    ensures refused { IfOk result (LeavesUnwritten (F.files files.old) (F.files files.new)) }
     ensures none { IfRefused result (λ _. ⊥) }
     ensures fault { HadReadFault F.Shelf files.old files.new result }
     ensures write_fault { HadWriteFault F.Shelf files.old files.new result }

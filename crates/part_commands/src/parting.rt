@@ -4,7 +4,7 @@ ghost use Rattle.stn_model.specs.Sound.{Sound};
 ghost use Rattle.time_grid.specs.Slots.{slots};
 ghost use Rattle.command_replies.specs.Frames.{HadReadFault};
 ghost use Rattle.store_frames.specs.Frames.{OnlyReads};
-ghost use Rattle.command_replies.specs.Answers.{IsPlantAnswer};
+ghost use Rattle.command_replies.specs.Answers.{AnswersPlant};
 ghost use Rattle.command_replies.specs.Sources.{IfReplied};
 ghost use Rattle.part_commands.specs.Parting.{
   digit_word,
@@ -34,9 +34,8 @@ pub fn parts_file<F: Shelf>(
     levels: Levels,
 ) -> Result<Reply, Stopped>
     requires { IsTrue (F.may_read files.old name.now) }
-    ensures answer { IfReplied result (λ reply. IsPlantAnswer (F.files files.old)
-        (F.files files.new)
-        name.now [] (λ _. Parted levels.number) reply.status reply.text.items) }
+    ensures answer { IfReplied result (AnswersPlant (F.files files.old) (F.files files.new)
+        name.now [] (λ _. Parted levels.number)) }
     ensures fault { HadReadFault F.Shelf files.old files.new result }
     ensures unwritten { result ≢ Err Stopped.WriteFault }
     ensures kept { OnlyReads F.Shelf files.old files.new }

@@ -10,7 +10,7 @@ ghost use Rattle.proof_log.specs.OneText.{IsClaimOver};
 ghost use Rattle.what_if.specs.Raised.{raised};
 ghost use Rattle.command_replies.specs.Frames.{HadReadFault};
 ghost use Rattle.store_frames.specs.Frames.{OnlyReads};
-ghost use Rattle.command_replies.specs.Answers.{IsPlantAnswer, content};
+ghost use Rattle.command_replies.specs.Answers.{AnswersPlant, content};
 ghost use Rattle.command_replies.specs.Sources.{IfRefused, IfReplied};
 ghost use Rattle.tank_commands.specs.Estimating.{
   is_tank,
@@ -54,11 +54,9 @@ pub fn estimate_file<F: Shelf>(
 ) -> Result<Reply, Stopped>
     requires plant_readable { IsTrue (F.may_read files.old plant.now) }
     requires log_readable { IsTrue (F.may_read files.old log.now) }
-    ensures answer { IfReplied result (λ reply. IsPlantAnswer (F.files files.old)
-        (F.files files.new)
+    ensures answer { IfReplied result (AnswersPlant (F.files files.old) (F.files files.new)
         plant.now (log.now ∷ [])
-        (λ contents. Estimated state.now steps.step steps.count (content contents 1))
-        reply.status reply.text.items) }
+        (λ contents. Estimated state.now steps.step steps.count (content contents 1))) }
     ensures fault { HadReadFault F.Shelf files.old files.new result }
     ensures unwritten { result ≢ Err Stopped.WriteFault }
     ensures kept { OnlyReads F.Shelf files.old files.new }

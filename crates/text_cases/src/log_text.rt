@@ -3,6 +3,7 @@ ghost use Rattle.std.specs.Prelude.{◌≡◌, false};
 ghost use Rattle.stn_edge.specs.Files.{file_of};
 ghost use Rattle.log_lines.specs.Reader.{IsAhead};
 
+use case_programs::limits_of;
 use case_tables::{Sheet, Step, Tried};
 use log_lines::{Grammar, Limits, Line, LineEnd, LineReader, put_line, read_line};
 use std::alloc::Global;
@@ -40,19 +41,6 @@ fn put_again(alloc: Global, line: Line, sheet: &mut Sheet) -> Tried {
     sheet.line(fields.as_str());
     sheet.put_bytes(text.as_slice().trim_ascii_end());
     Ok(())
-}
-
-// The limits of the next three words: `ROWS SLOTS DEPTH`.
-fn limits_of(sheet: &mut Sheet) -> Limits {
-    let rows = sheet.number();
-    let slots = sheet.number();
-    let depth = sheet.number();
-    Limits {
-        rows,
-        slots,
-        points: slots,
-        depth,
-    }
 }
 
 // `take ROWS SLOTS DEPTH`, over lines: the kind of the defect of each or `-`, and whether the log is done then.
