@@ -1,6 +1,6 @@
 -- The answer of planning that goes on from a plan at hand, when it is right, and what it leaves: `replan` keeps the starts before a
 -- period, and `improve` keeps none.
-use Rattle.std.specs.Prelude.{◌≡◌, ◌⊎◌, ℕ, List, Option, Some, None, Ok}
+use Rattle.std.specs.Prelude.{◌≡◌, ◌⊎◌, ℕ, List, [], Option, Some, None, Ok}
 use Rattle.stn_edge.specs.Files.{FileMap}
 use Rattle.stn_model.specs.declared.plant.Plant.{Plant}
 use Rattle.stn_model.specs.declared.start.Start.{Start}
@@ -9,8 +9,10 @@ use Rattle.plant_text.specs.Reading.{reading}
 use Rattle.plan_text.specs.PlanText.{plan_of_text}
 use Rattle.frozen_plan.specs.Frozen.{kept_starts}
 use Rattle.frozen_plan.specs.Keeping.{StandTogether}
+use Rattle.command_replies.specs.declared.reply.Reply.{Reply}
+use Rattle.command_replies.specs.Answers.{IsPlanAnswer}
 use Rattle.command_replies.specs.Sources.{IsReadOf}
-use Rattle.planning_commands.specs.NamedLog.{LogLeft}
+use Rattle.planning_commands.specs.NamedLog.{LogLeft, told_log}
 use Rattle.planning_commands.specs.Solving.{LeavesPlant}
 use Rattle.planning_commands.specs.Improving.{Improved}
 use Rattle.planning_commands.specs.Replanning.{Replanned, LeavesKept}
@@ -19,6 +21,11 @@ use Rattle.planning_commands.specs.Replanning.{Replanned, LeavesKept}
 abbrev pub PlannedOn : Option ℕ → ℕ → Plant → List Start → Option (List ℕ) → Type 0 → ℕ → List ℕ → Type 0
 PlannedOn None budget plant start log Unchanged status text = Improved budget plant start log Unchanged status text
 PlannedOn (Some period) budget plant start log Unchanged status text = Replanned budget plant period start log Unchanged status text
+
+-- the reply to a command that plans on from the plan in a file, of which the starts before a period are kept, or none
+abbrev pub AnswersOn : Option ℕ → ℕ → Option (List ℕ) → Option FileMap → Option FileMap → List ℕ → List ℕ → Reply → Type 0
+AnswersOn kept budget log old new name plan reply =
+    IsPlanAnswer old new name plan [] (λ plant start. PlannedOn kept budget plant start (told_log log new) (new ≡ old)) reply.status reply.text.items
 
 -- planning can go on from a plan: the starts that are kept of it stand together, and where none are kept, it is feasible
 abbrev pub CanGoOn : Option ℕ → Plant → List Start → Type 0

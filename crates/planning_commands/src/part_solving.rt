@@ -8,7 +8,7 @@ ghost use Rattle.time_grid.specs.Slots.{slots};
 ghost use Rattle.plan_told.specs.Proofs.{bytes_in};
 ghost use Rattle.command_replies.specs.Frames.{HadReadFault, HadWriteFault};
 ghost use Rattle.store_frames.specs.Frames.{ReadsAndWrites};
-ghost use Rattle.command_replies.specs.Answers.{IsPlantAnswer, IsUnwritten};
+ghost use Rattle.command_replies.specs.Answers.{AnswersPlant, LeavesUnwritten};
 ghost use Rattle.command_replies.specs.Sources.{IfReplied, IfRefused, IsReadOf};
 ghost use Rattle.answer_texts.specs.Levels.{OnLevels};
 ghost use Rattle.planning_commands.specs.Frames.{OnlyWrites};
@@ -38,13 +38,10 @@ pub fn solve_part_file<A: Advisers, F: Shelf>(
 ) -> Result<Reply, Stopped>
     requires plant_readable { IsTrue (F.may_read files.old name.now) }
     requires log_writable { IsTrue (F.may_write files.old log.now) }
-    ensures answer { IfReplied result (λ reply. IsPlantAnswer (F.files files.old)
-        (F.files files.new)
+    ensures answer { IfReplied result (AnswersPlant (F.files files.old) (F.files files.new)
         name.now [] (λ _ plant. OnLevels plant part.levels.number (PartSolved budget.boxes plant
-        part.levels.number part.number (bytes_in log.now (F.files files.new))))
-        reply.status reply.text.items) }
-    ensures refused { IfReplied result (λ reply. IsUnwritten reply.status
-        → F.files files.new ≡ F.files files.old) }
+        part.levels.number part.number (bytes_in log.now (F.files files.new))))) }
+    ensures refused { IfReplied result (LeavesUnwritten (F.files files.old) (F.files files.new)) }
     ensures fault { HadReadFault F.Shelf files.old files.new result }
     ensures unread { result ≡ Err Stopped.ReadFault → F.files files.new ≡ F.files files.old }
     ensures write_fault { HadWriteFault F.Shelf files.old files.new result }
@@ -74,8 +71,7 @@ fn solve_part<A: Advisers, F: Shelf>(
     ensures answer { IfOk result (λ reply. OnLevels plant.now part.levels.number
         (PartSolved budget.boxes plant.now part.levels.number part.number
         (bytes_in log.now (F.files files.new))) reply.status reply.text.items) }
-    ensures refused { IfOk result (λ reply. IsUnwritten reply.status
-        → F.files files.new ≡ F.files files.old) }
+    ensures refused { IfOk result (LeavesUnwritten (F.files files.old) (F.files files.new)) }
     ensures none { IfRefused result (λ _. ⊥) }
     ensures no_fault { result ≢ Err Stopped.ReadFault }
     ensures write_fault { HadWriteFault F.Shelf files.old files.new result }

@@ -1,5 +1,5 @@
 //! `replan` and `improve`, with a log or without one: planning that goes on from the plan in a file.
-ghost use Rattle.std.specs.Prelude.{◌≡◌, ◌≢◌, ◌≤◌, ◌<◌, ◌^◌, ◌⊎◌, [], ℕ, List, length, None, Ok, Err, IsTrue, IfOk, IfSome};
+ghost use Rattle.std.specs.Prelude.{◌≡◌, ◌≢◌, ◌≤◌, ◌<◌, ◌^◌, ◌⊎◌, ℕ, List, length, None, Ok, Err, IsTrue, IfOk, IfSome};
 ghost use Rattle.stn_model.specs.Sound.{Sound};
 ghost use Rattle.stn_model.specs.declared.start.Start.{Start};
 ghost use Rattle.plan_text.specs.PlanText.{plan_of_text};
@@ -7,11 +7,11 @@ ghost use Rattle.plant_text.specs.Reading.{reading};
 ghost use Rattle.command_words.specs.Words.{named_log};
 ghost use Rattle.command_replies.specs.Frames.{HadReadFault};
 ghost use Rattle.store_frames.specs.Frames.{ReadsAndWrites};
-ghost use Rattle.command_replies.specs.Answers.{IsPlanAnswer, IsUnwritten};
+ghost use Rattle.command_replies.specs.Answers.{LeavesUnwritten};
 ghost use Rattle.command_replies.specs.Sources.{IfReplied, IsReadOf};
 ghost use Rattle.planning_commands.specs.Frames.{MayPlan, OnlyPlans, OthersLeft, WritesLog};
 ghost use Rattle.planning_commands.specs.NamedLog.{LogLeft, told_log};
-ghost use Rattle.planning_commands.specs.PlanningOn.{CanGoOn, CanBePlanned, HoldsOn, LeftOn, PlannedOn};
+ghost use Rattle.planning_commands.specs.PlanningOn.{AnswersOn, CanGoOn, CanBePlanned, HoldsOn, LeftOn, PlannedOn};
 
 use crate::improving::improve;
 use crate::replanning::replan;
@@ -37,13 +37,9 @@ pub fn plan_on_file<A: Advisers, F: Shelf>(
     requires plant_readable { IsTrue (F.may_read files.old plant.now) }
     requires plan_readable { IsTrue (F.may_read files.old plan.now) }
     requires log_writable { IfSome (named_log log) (λ name. IsTrue (F.may_write files.old name)) }
-    ensures answer { IfReplied result (λ reply. IsPlanAnswer (F.files files.old) (F.files files.new)
-        plant.now plan.now [] (λ plant starts. PlannedOn kept budget.boxes plant starts
-        (told_log (named_log log.entry) (F.files files.new)) (F.files files.new
-        ≡ F.files files.old))
-        reply.status reply.text.items) }
-    ensures refused { IfReplied result (λ reply. IsUnwritten reply.status
-        → F.files files.new ≡ F.files files.old) }
+    ensures answer { IfReplied result (AnswersOn kept budget.boxes (named_log log.entry)
+        (F.files files.old) (F.files files.new) plant.now plan.now) }
+    ensures refused { IfReplied result (LeavesUnwritten (F.files files.old) (F.files files.new)) }
     ensures fault { HadReadFault F.Shelf files.old files.new result }
     ensures unread { result ≡ Err Stopped.ReadFault → F.files files.new ≡ F.files files.old }
     ensures writing { WritesLog F.Shelf (named_log log.entry) files.old files.new result }
@@ -73,13 +69,9 @@ fn plan_on<A: Advisers, F: Shelf>(
     requires log_writable { IfSome (named_log log) (λ name. IsTrue (F.may_write files.old name)) }
     requires sound { Sound plant.now }
     ensures answer { (name : List ℕ) → IsReadOf reading (F.files files.old) name (Ok plant.now)
-        → IfReplied result (λ reply. IsPlanAnswer (F.files files.old) (F.files files.new)
-        name plan.now [] (λ plant starts. PlannedOn kept budget.boxes plant starts
-        (told_log (named_log log.entry) (F.files files.new)) (F.files files.new
-        ≡ F.files files.old))
-        reply.status reply.text.items) }
-    ensures refused { IfReplied result (λ reply. IsUnwritten reply.status
-        → F.files files.new ≡ F.files files.old) }
+        → IfReplied result (AnswersOn kept budget.boxes (named_log log.entry) (F.files files.old)
+        (F.files files.new) name plan.now) }
+    ensures refused { IfReplied result (LeavesUnwritten (F.files files.old) (F.files files.new)) }
     ensures fault { HadReadFault F.Shelf files.old files.new result }
     ensures unread { result ≡ Err Stopped.ReadFault → F.files files.new ≡ F.files files.old }
     ensures writing { WritesLog F.Shelf (named_log log.entry) files.old files.new result }

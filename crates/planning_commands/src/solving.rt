@@ -1,12 +1,10 @@
 //! `solve PLANT BUDGET` and `solve PLANT BUDGET LOG`: planning.
-ghost use Rattle.std.specs.Prelude.{◌≡◌, ◌≢◌, ◌≤◌, ◌⊎◌, [], None, Ok, Err, IsTrue, IfSome};
-ghost use Rattle.stn_model.specs.declared.plant.Plant.{Plant};
-ghost use Rattle.plant_text.specs.Reading.{reading};
+ghost use Rattle.std.specs.Prelude.{◌≡◌, ◌≢◌, ◌≤◌, ◌⊎◌, [], None, Err, IsTrue, IfSome};
 ghost use Rattle.command_words.specs.Words.{named_log};
 ghost use Rattle.command_replies.specs.Frames.{HadReadFault};
 ghost use Rattle.store_frames.specs.Frames.{ReadsAndWrites};
-ghost use Rattle.command_replies.specs.Answers.{IsPlantAnswer, IsUnwritten};
-ghost use Rattle.command_replies.specs.Sources.{IfReplied, IsReadOf};
+ghost use Rattle.command_replies.specs.Answers.{AnswersPlant, HasReadPlant, LeavesUnwritten};
+ghost use Rattle.command_replies.specs.Sources.{IfReplied};
 ghost use Rattle.planning_commands.specs.Frames.{OthersLeft, WritesLog};
 ghost use Rattle.planning_commands.specs.NamedLog.{LogLeft, told_log};
 ghost use Rattle.planning_commands.specs.Solving.{HoldsLog, Solved};
@@ -29,17 +27,14 @@ pub fn solve_file<A: Advisers, F: Shelf>(
 ) -> Result<Reply, Stopped>
     requires plant_readable { IsTrue (F.may_read files.old name.now) }
     requires log_writable { IfSome (named_log log) (λ name. IsTrue (F.may_write files.old name)) }
-    ensures answer { IfReplied result (λ reply. IsPlantAnswer (F.files files.old)
-        (F.files files.new)
+    ensures answer { IfReplied result (AnswersPlant (F.files files.old) (F.files files.new)
         name.now [] (λ _ plant. Solved budget.boxes plant
-        (told_log (named_log log.entry) (F.files files.new))) reply.status reply.text.items) }
-    ensures refused { IfReplied result (λ reply. IsUnwritten reply.status
-        → F.files files.new ≡ F.files files.old) }
+        (told_log (named_log log.entry) (F.files files.new)))) }
+    ensures refused { IfReplied result (LeavesUnwritten (F.files files.old) (F.files files.new)) }
     ensures fault { HadReadFault F.Shelf files.old files.new result }
     ensures unread { result ≡ Err Stopped.ReadFault → F.files files.new ≡ F.files files.old }
     ensures writing { WritesLog F.Shelf (named_log log.entry) files.old files.new result }
-    ensures begun { result ≡ Err Stopped.WriteFault
-        → (plant : Plant) × IsReadOf reading (F.files files.old) name.now (Ok plant) }
+    ensures begun { result ≡ Err Stopped.WriteFault → HasReadPlant (F.files files.old) name.now }
     ensures left { LogLeft (named_log log.entry) (λ log. (F.files files.new ≡ F.files files.old)
         ⊎ HoldsLog (F.files files.old) (F.files files.new) name.now log)
         (F.files files.old) (F.files files.new) }
