@@ -9,6 +9,8 @@ pub struct Accounts {
     patience: u64,
     boxes: u64,
     is_first: bool,
+    // The work for plans at the first box, once it is over.
+    first: u64,
     gained: Spent,
     cap: i128,
 }
@@ -50,6 +52,7 @@ impl Accounts {
             patience: square.saturating_mul(patience),
             boxes: 0,
             is_first: true,
+            first: 0,
             gained: Spent { boxes: 0, plans: 0 },
             cap: i128::MAX,
         }
@@ -65,9 +68,12 @@ impl Accounts {
         self.is_first = false;
     }
 
-    /// Notes that a box is looked at.
-    pub fn note_box(&mut self) {
-        self.is_first = self.is_first && self.boxes == 0;
+    /// Notes that a box is looked at, after so much work for plans.
+    pub fn note_box(&mut self, plans: u64) {
+        if self.is_first && self.boxes > 0 {
+            self.is_first = false;
+            self.first = plans;
+        }
         self.boxes = self.boxes.saturating_add(self.per_box);
     }
 
@@ -81,7 +87,7 @@ impl Accounts {
 
     /// Whether more may be done for a plan that is worth more than the best one, after so much work for plans: at the first box until
     /// there was no better plan for some time; later three tenths of the work while the last one has come in its last three tenths, and
-    /// else a seventh.
+    /// else a seventh. What the first box took counts a quarter later, so that plans are looked for before as much work is done again.
     pub fn allow(&self, plans: u64, best: i128) -> bool {
         let gap = self.cap.saturating_sub(best);
         if gap <= 0 {
@@ -93,6 +99,7 @@ impl Accounts {
             return since <= patience && plans <= MOST_FIRST;
         }
         let boxes = self.boxes.saturating_sub(self.gained.boxes);
+        let plans = plans.saturating_sub(self.first / 4 * 3);
         let all = self.boxes.saturating_add(plans);
         if since.saturating_add(boxes) <= all / 10 * 3 {
             plans <= all / 10 * 3

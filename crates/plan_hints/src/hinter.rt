@@ -347,7 +347,7 @@ impl Looker {
     // Offers a plan: whether its values are in the first places of the point.
     fn offer(&mut self, program: &Program, area: &Area, point: &mut [u8]) -> bool {
         self.boxes = self.boxes.saturating_add(1);
-        self.accounts.note_box();
+        self.accounts.note_box(self.finder.work);
         if is_only(program, area) {
             self.take_only(program, area);
         } else {
