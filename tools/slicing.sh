@@ -59,10 +59,16 @@ is_small_gap() {
     [ -n "$gap_given" ] && [ "$gap" != "-" ] && awk -v gap="$gap" -v most="$gap_given" 'BEGIN { exit !(gap + 0 <= most + 0) }'
 }
 
+# Runs a command to its end whatever signals come meanwhile; where one came before it began, it is begun once more.
+unbroken() {
+    (trap '' INT TERM HUP && "$@") && return
+    [ -n "$signal" ] && (trap '' INT TERM HUP && "$@")
+}
+
 # Takes an answer that has become whole: its file, and that of its log, are the last ones; what it says of profit, cap and boxes is read.
 take_answer() {
     local line
-    mv -f "$room/next" "$room/last" && mv -f "$room/next.log" "$room/last.log" || return 1
+    unbroken mv -f "$room/next" "$room/last" && unbroken mv -f "$room/next.log" "$room/last.log" || return 1
     { read -r -a answer && read -r -a line; } <"$room/last"
     boxes="${line[2]:-0}"
     gap="$(gap_of "${answer[2]:-"-"}" "${answer[3]:-0}")"
@@ -72,11 +78,11 @@ take_answer() {
 # Puts the last whole log into LOG, at once as a whole where that is a plain file or none.
 hand_log() {
     if [ -e "$log" ] && ! is_plain "$log"; then
-        cat "$room/last.log" >"$log"
+        unbroken cat "$room/last.log" >"$log"
         return
     fi
     name_beside "$log" "next.$$"
-    cp -- "$room/last.log" "$beside" && mv -f -- "$beside" "$log" && return
+    unbroken cp -- "$room/last.log" "$beside" && unbroken mv -f -- "$beside" "$log" && return
     rm -f -- "$beside"
     return 1
 } 2>/dev/null
