@@ -78,7 +78,7 @@ take_answer() {
 # Puts the last whole log into LOG, at once as a whole where that is a plain file or none.
 hand_log() {
     if [ -e "$log" ] && ! is_plain "$log"; then
-        unbroken cat "$room/last.log" >"$log"
+        cat "$room/last.log" >"$log"
         return
     fi
     name_beside "$log" "next.$$"
