@@ -98,6 +98,31 @@ impl History {
         age >= most
     }
 
+    /// Takes derived rows that went back, those that were found last first, until so many are there. A row that is slack at the root
+    /// may bind below it, and few rows cost a bound little.
+    pub fn take_back(&mut self, few: usize) {
+        let mut there = self.count_there();
+        let count = self.made.len();
+        for turn in 0..count {
+            let place = count - 1 - turn;
+            if there < few && place < self.made.len() && !self.made[place].there {
+                self.made[place].there = true;
+                there = there.saturating_add(1);
+            }
+        }
+    }
+
+    // How many derived rows are there.
+    fn count_there(&self) -> usize {
+        let mut count = 0usize;
+        for made in self.made.as_slice() {
+            if made.there {
+                count = count.saturating_add(1);
+            }
+        }
+        count
+    }
+
     /// All rows that are there, and what they and cuts name, as derivations of the program with its sums.
     pub fn declared(&mut self, alloc: Global) -> Result<List<Derivation>, AllocError> {
         self.mark_needed();

@@ -16,6 +16,9 @@ const MOST_STILL: u32 = 2;
 
 const MOST_STILL_WIDE: u32 = 3;
 
+// With fewer derived rows those that went come back in the end.
+const FEW_ROWS: usize = 48;
+
 /// How far separation goes at most.
 #[derive(Clone, Copy)]
 pub struct Effort {
@@ -94,6 +97,7 @@ fn derived(
             Some(next) => grown = next,
         }
     }
+    history.take_back(FEW_ROWS);
     history.declared(alloc)
 }
 

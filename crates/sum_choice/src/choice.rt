@@ -12,10 +12,11 @@ use std::alloc::{AllocError, Global};
 use sum_slots::Sum;
 
 /// The sums that a search of the program is to split on: how often each run starts, in two halves where that may be more than
-/// 255 times, and the stocks of all states at all times, of which those at the last times are taken where there is no room for
-/// all. Each is declared over the program and shown by these domains. There is room for their slots, of which the program may have
-/// `most` with them, and for their rows; none are chosen where there are too many rows already. A stock is a row without fixed parts,
-/// divided by what divides all its parts. It takes memory for the sums, and costs the square of the slots and for each stock all rows.
+/// 255 times, and the stocks of all states at all times; where there is no room for all, the stock of each state at its last time,
+/// and of the others those with the most entries. Each is declared over the program and shown by these domains. There is room for
+/// their slots, of which the program may have `most` with them, and for their rows; none are chosen where there are too many rows
+/// already. A stock is a row without fixed parts, divided by what divides all its parts. It takes memory for the sums, and costs the
+/// square of the slots and for each stock all rows.
 pub fn choose_sums(
     alloc: Global,
     program: &Program,

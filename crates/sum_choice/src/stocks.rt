@@ -5,16 +5,34 @@ use row_kit::{Domain, Entry, Program, Tag};
 use std::alloc::{AllocError, Global};
 use sum_slots::Sum;
 
-// A row that keeps a stock: its number, that of its entries, and that of the sums that are declared of its terms.
+// A row that keeps a stock: its number, that of its entries, that of the sums that are declared of its terms, and whether it is the
+// last of its state.
 #[derive(Clone, Copy)]
 struct Stock {
     row: usize,
     entries: usize,
     sums: usize,
+    last: bool,
+}
+
+// More than the entries of any row.
+const MANY: usize = 1_000_000;
+
+impl Stock {
+    // Its rank where there is no room for all: before all others come those at the last times of their states, and of both those with
+    // the most entries.
+    fn rank(&self) -> usize {
+        let missing = MANY.saturating_sub(self.entries);
+        if self.last {
+            missing
+        } else {
+            missing.saturating_add(MANY)
+        }
+    }
 }
 
 /// Offers the stocks of all states at all times, one for each row that keeps a stock, as far as they differ. Where there is no room
-/// for all sums of them, those with the most entries are taken: of each state those at its last times.
+/// for all sums of them, that of each state at its last time is taken, and of the others those with the most entries.
 pub fn offer_stocks(
     alloc: Global,
     program: &Program,
@@ -23,9 +41,9 @@ pub fn offer_stocks(
     into: &mut Vec<Sum>,
 ) -> Result<(), AllocError> {
     let stocks = list_stocks(alloc, program, ranges)?;
-    let least = least_fitting(alloc, stocks.as_slice(), room)?;
+    let end = first_left_out(alloc, stocks.as_slice(), room)?;
     for stock in &stocks {
-        if stock.entries >= least && stock.row < program.rows.len() {
+        if stock.rank() < end && stock.row < program.rows.len() {
             let entries = program.rows.get(stock.row).entries.as_slice();
             let terms = stock_terms(alloc, entries)?;
             put_sums(alloc, program, ranges, terms.as_slice(), into)?;
@@ -47,38 +65,54 @@ fn list_stocks(
             let terms = stock_terms(alloc, entries)?;
             let sums = span_of(program, ranges, terms.as_slice()).count() as usize;
             if sums >= 1 {
-                stocks.push(Stock {
-                    row,
-                    entries: entries.len(),
-                    sums,
-                })?;
+                put_stock(&mut stocks, row, entries.len(), sums)?;
             }
         }
     }
     Ok(stocks)
 }
 
-// The least number of entries so that there is room for the sums of all stocks that have as many.
-fn least_fitting(alloc: Global, stocks: &[Stock], room: usize) -> Result<usize, AllocError> {
-    let mut sizes = sizes_of(alloc, stocks)?;
-    sizes.sort_unstable();
-    let mut used = 0usize;
-    for (missing, sums) in &sizes {
-        used = used.saturating_add(*sums);
-        if used > room {
-            return Ok((usize::MAX - *missing).saturating_add(1));
-        }
+// Puts a stock behind others, as the last of its state. One with fewer entries before it is of the same state at an earlier time.
+fn put_stock(
+    stocks: &mut Vec<Stock>,
+    row: usize,
+    entries: usize,
+    sums: usize,
+) -> Result<(), AllocError> {
+    let count = stocks.len();
+    if count >= 1 && stocks[count - 1].entries < entries {
+        stocks[count - 1].last = false;
     }
-    Ok(0)
+    stocks.push(Stock {
+        row,
+        entries,
+        sums,
+        last: true,
+    })?;
+    Ok(())
 }
 
-// Of each stock how many entries are missing to the most that a number says, and how many sums it has.
-fn sizes_of(alloc: Global, stocks: &[Stock]) -> Result<Vec<(usize, usize)>, AllocError> {
-    let mut sizes = Vec::with_capacity(alloc, stocks.len())?;
-    for stock in stocks {
-        sizes.push((usize::MAX - stock.entries, stock.sums))?;
+// The first rank whose stocks there is no room for, with those of all ranks before it.
+fn first_left_out(alloc: Global, stocks: &[Stock], room: usize) -> Result<usize, AllocError> {
+    let mut ranks = ranks_of(alloc, stocks)?;
+    ranks.sort_unstable();
+    let mut used = 0usize;
+    for (rank, sums) in &ranks {
+        used = used.saturating_add(*sums);
+        if used > room {
+            return Ok(*rank);
+        }
     }
-    Ok(sizes)
+    Ok(usize::MAX)
+}
+
+// Of each stock its rank, and how many sums it has.
+fn ranks_of(alloc: Global, stocks: &[Stock]) -> Result<Vec<(usize, usize)>, AllocError> {
+    let mut ranks = Vec::with_capacity(alloc, stocks.len())?;
+    for stock in stocks {
+        ranks.push((stock.rank(), stock.sums))?;
+    }
+    Ok(ranks)
 }
 
 // Whether entries are those of a row that keeps a stock: two at least, none with a fixed part, and either one counts less than
